@@ -1,0 +1,6 @@
+pub mod Syntax
+pub mod Nodes
+pub mod Places
+pub mod Tokens
+pub mod Feed
+pub mod Grammar
