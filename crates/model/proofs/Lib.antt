@@ -1,2 +1,12 @@
 pub mod Readable
 pub mod Holding
+pub mod Once
+pub mod Derive
+pub mod Stops
+pub mod Back
+pub mod Numbers
+pub mod Numerals
+pub mod Words
+pub mod Feeds
+pub mod Spelled
+pub mod Texts

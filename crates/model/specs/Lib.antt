@@ -3,5 +3,10 @@ pub mod Nodes
 pub mod Held
 pub mod Places
 pub mod Tokens
+pub mod Bytes
 pub mod Feed
+pub mod Lexing
+pub mod Spelling
 pub mod Grammar
+pub mod Readings
+pub mod Texts

@@ -69,6 +69,10 @@ mutual
 abbrev pub Solid : Type 0
 Solid = Expr (one solid)
 
+-- nothing
+abbrev pub Empty : Solid
+Empty = node empty none
+
 -- the number of nodes
 unfoldable mutual
   pub size : {s : Sort} → Expr s → ℕ

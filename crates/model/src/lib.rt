@@ -11,4 +11,5 @@ pub use node::Triple;
 pub use refusal::Refusal;
 pub use refusal::Span;
 pub use word::Mark;
+pub use word::MarkPartialEq;
 pub use word::Word;

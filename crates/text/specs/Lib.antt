@@ -1,0 +1,5 @@
+pub mod Classes
+pub mod Lexer
+pub mod Forms
+pub mod Reading
+pub mod Tables
