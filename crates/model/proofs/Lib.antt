@@ -10,3 +10,5 @@ pub mod Words
 pub mod Feeds
 pub mod Spelled
 pub mod Texts
+pub mod Respelled
+pub mod Written

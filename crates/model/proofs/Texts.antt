@@ -62,3 +62,9 @@ never text f e q a = let p = told text e a in clash (cc)
 -- two texts say one program exactly when their tokens are equal
 pub same-program : (t u : List ℕ) (e f : Solid) → Accepts t e → Accepts u f → Both-ways (e ≡ f) (said (feed-of t) ≡ said (feed-of u))
 same-program t u e f a b = (λ q. a .says ∙ ap tokens q ∙ sym (b .says), λ q. one-reading e f (sym (a .says) ∙ q ∙ b .says))
+
+pub outcome-long : (text : List ℕ) → most-bytes < length text → outcome text ≡ refused (TooLarge past-end)
+outcome-long text h = by-length text (λ o. o ≡ refused (TooLarge past-end)) (λ _. refl) (λ short. absurd (omega arith))
+
+pub outcome-short : (text : List ℕ) → length text ≤ most-bytes → outcome text ≡ judged (feed-of text)
+outcome-short text h = by-length text (λ o. o ≡ judged (feed-of text)) (λ long. absurd (omega arith)) (λ _. refl)

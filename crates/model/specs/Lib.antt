@@ -1,6 +1,7 @@
 pub mod Syntax
 pub mod Nodes
 pub mod Held
+pub mod Tables
 pub mod Places
 pub mod Tokens
 pub mod Bytes
@@ -10,3 +11,4 @@ pub mod Spelling
 pub mod Grammar
 pub mod Readings
 pub mod Texts
+pub mod Written

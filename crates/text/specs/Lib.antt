@@ -2,4 +2,4 @@ pub mod Classes
 pub mod Lexer
 pub mod Forms
 pub mod Reading
-pub mod Tables
+pub mod Loading

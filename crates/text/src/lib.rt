@@ -1,9 +1,8 @@
-// Caddy texts: read into a table of nodes, and written from one.
+// Caddy texts, read into a table of nodes.
 mod expect;
 mod form;
-mod read;
+mod load;
 mod reader;
-mod table;
 mod token;
 
-pub use table::Table;
+pub use load::read;
