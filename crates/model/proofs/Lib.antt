@@ -1,5 +1,7 @@
+pub mod Equal
 pub mod Readable
 pub mod Holding
+pub mod Extents
 pub mod Once
 pub mod Derive
 pub mod Stops

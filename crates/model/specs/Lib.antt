@@ -2,6 +2,7 @@ pub mod Syntax
 pub mod Nodes
 pub mod Held
 pub mod Tables
+pub mod Depths
 pub mod Places
 pub mod Tokens
 pub mod Bytes
@@ -9,6 +10,7 @@ pub mod Feed
 pub mod Lexing
 pub mod Spelling
 pub mod Grammar
+pub mod Reports
 pub mod Readings
 pub mod Texts
 pub mod Written

@@ -1,6 +1,6 @@
 -- The node list of an expression, as a table holds it, and the program that a list of nodes is. Assumes nothing.
 use mathlib.Core.List.{List, [], _∷_, _++_}
-use mathlib.Core.Option.{Option, some}
+use Prim.Native.Nat.{ℕ, _+_}
 use Rattle.model.specs.declared.node.Node.{Node}
 use Rattle.model.specs.declared.node.Node.the-variants as v
 use Rattle.model.specs.Syntax.{Kind, solid, vector, Sort, one, many, num, Head, arity, Expr, Exprs, node, none, more}
@@ -22,6 +22,23 @@ node-of (S.sort n) = v.Sort n
 node-of (S.unsort n) = v.Unsort n
 node-of (S.map2 t) = v.Map2 t
 node-of (S.number j) = v.Number j
+
+-- the number of a node's parts
+abbrev pub parts : Node → ℕ
+parts v.Empty = 0
+parts (v.Primitive k a) = 0
+parts (v.Place t a) = 1
+parts (v.Join o) = 2
+parts v.Fold = 1
+parts (v.Vector a) = 0
+parts (v.List n) = n
+parts (v.Repeat n) = 1
+parts (v.Tabulate n) = 1
+parts v.Concat = 2
+parts (v.Sort n) = n + 1
+parts (v.Unsort n) = n + 1
+parts (v.Map2 t) = 2
+parts (v.Number j) = 0
 
 -- the nodes in reading order
 unfoldable mutual

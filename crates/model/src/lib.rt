@@ -1,7 +1,11 @@
 // Caddy programs as a table of nodes, the words of their texts, and what a refused text is told.
+mod depth;
+mod extent;
 mod held;
 mod node;
 mod refusal;
+mod report;
+mod same;
 mod table;
 mod word;
 
@@ -10,7 +14,9 @@ pub use node::Node;
 pub use node::Operator;
 pub use node::Placement;
 pub use node::Triple;
+pub use refusal::Layer;
 pub use refusal::Refusal;
+pub use refusal::Report;
 pub use refusal::Span;
 pub use table::Table;
 pub use word::Mark;

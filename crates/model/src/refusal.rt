@@ -16,3 +16,19 @@ pub enum Refusal {
     /// The first token of a node past the limits, or the first byte past the longest text.
     TooLarge(Span),
 }
+
+/// Where a text goes wrong: in its tokens, in its grammar and size, or in what it says.
+#[derive(Clone, Copy, PartialEq, Eq)]
+pub enum Layer {
+    Token,
+    Grammar,
+    Legality,
+}
+
+/// What a refusal is known by.
+#[derive(Clone, Copy, PartialEq, Eq)]
+pub struct Report {
+    pub number: u8,
+    pub layer: Layer,
+    pub span: Span,
+}
