@@ -139,6 +139,3 @@ number-back (pos (suc n)) (pos zero) h k = plain-signed (pos (suc n)) (omega ari
 number-back (negsuc n) (pos zero) h k = plain-signed (negsuc n) (omega arith, h)
 number-back a (pos (suc m)) h k = with-slope a (pos (suc m)) h (omega arith, k)
 number-back a (negsuc m) h k = with-slope a (negsuc m) h (omega arith, k)
-
-pub reads-back : (run : List ℕ) (r : Option (ℤ × ℤ)) → r ≡ number-of run → (a c : ℤ) → Small a → Small c → run ≡ numeral a c → r ≡ Some (a, c)
-reads-back run r e a c h k spelled = e ∙ ap number-of spelled ∙ number-back a c h k

@@ -3,8 +3,8 @@ use mathlib.Core.Bool.{Bool}
 use Prim.Native.Nat.{ℕ}
 use Rattle.std.specs.Text.{asciiDigit}
 use Rattle.model.specs.Bytes.{isSep, inWord, inNumber}
-use Rattle.text.specs.declared.token.Class.{Class}
-use Rattle.text.specs.declared.token.Class.the-variants.{Separator, InWord, InNumber, Digit}
+use Rattle.text.specs.declared.byte.Class.{Class}
+use Rattle.text.specs.declared.byte.Class.the-variants.{Separator, InWord, InNumber, Digit}
 
 -- a byte is of a class
 abbrev pub inClass : Class → ℕ → Bool

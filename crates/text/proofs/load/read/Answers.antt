@@ -12,6 +12,7 @@ use Rattle.model.specs.Grammar.{refused}
 use Rattle.model.specs.Held.{program}
 use Rattle.model.specs.Texts.{past-end, outcome}
 use Rattle.model.proofs.Texts.{refuses, never, same-program, outcome-long, outcome-short}
+use Rattle.model.proofs.Written.{read-small}
 use Rattle.text.proofs.Loads.{Loaded, loaded}
 use Rattle.text.proofs.load.read.Needs as need
 
@@ -39,4 +40,4 @@ ghost-table-2 c =
 pub returns : need.returns
 returns c =
     let l = subst (λ v. Loaded (c .args .text .now) (vec-items v)) (sym (c .swap .ensures .x-after)) (loaded (c .args .text .now) (vec-items (c .read-program .last .out)) (vec-len (c .read-program .last .out)) (c .in-rest .ensures tt .read) (c .if-text-gt-MOST-BYTES .left) (c .in-rest .ensures tt .goes)) in
-    record { outcome = l .outcome; reading = (l .accepted, λ other e a. same-program other (c .args .text .now) e (program (vec-items (c .swap .last .x))) a (l .accepted)) }
+    record { outcome = l .outcome; reading = (l .accepted, read-small (c .args .text .now) (program (vec-items (c .swap .last .x))) (l .accepted), λ other e a. same-program other (c .args .text .now) e (program (vec-items (c .swap .last .x))) a (l .accepted)) }

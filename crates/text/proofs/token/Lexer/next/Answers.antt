@@ -4,14 +4,13 @@ use native.Mathlib.Omega.{arith}
 use Rattle.std.proofs.shelf.Results.{err-from-errBy}
 use Rattle.model.specs.Feed as F
 use Rattle.model.specs.Lexing.{fed, feed}
-use Rattle.model.proofs.Feeds.{got-ahead, feed-end, feed-token, feed-small}
+use Rattle.model.proofs.Feeds.{got-ahead, feed-end, feed-token}
 use Rattle.text.specs.Lexer.{token-of, span-of}
 use Rattle.text.proofs.token.Lexer.next.Needs as need
 
 pub returns-then-self-text : need.returns-then-self-text
 returns-then-self-text c = record {
   same = refl;
-  small = tt;
   nexts = feed-end (c .args .self .now .text .now) (c .args .self .now .at) (c .run-end-self .result) (c .run-end-self .ensures .value) (c .if-self-text .taken);
 }
 
@@ -23,8 +22,7 @@ returns-in-Break-token c =
     rw (p .1, p .2)
     (record {
       same = refl;
-      small = tt;
-      nexts = (bad .0, bad .1, feed-token t (c .args .self .now .at) (c .run-end-self .result) (c .run-end-self .ensures .value) (omega arith) ∙ ap (λ x. fed x (feed t)) (bad .2));
+          nexts = (bad .0, bad .1, feed-token t (c .args .self .now .at) (c .run-end-self .result) (c .run-end-self .ensures .value) (omega arith) ∙ ap (λ x. fed x (feed t)) (bad .2));
     })
 
 pub add-self : need.add-self
@@ -40,7 +38,6 @@ returns c =
     let first = feed-token t (c .args .self .now .at) (c .run-end-self .result) (c .run-end-self .ensures .value) (omega arith) ∙ ap (λ x. fed x (feed t)) (c .in-Continue-token .ensures tt) in
     record {
       same = refl;
-      small = feed-small t (c .args .self .now .at) (token-of token) (span-of token) _ first;
       nexts = (
         first ∙ ap (λ x. F.token (token-of token) (span-of token) (feed t (x .at + x .len))) (sym (c .span-span .ensures)),
         omega (arith, m .0, c .run-end-self .ensures .value),

@@ -12,7 +12,7 @@ use Rattle.std.proofs.shelf.Lists.{drop-all, take-rest}
 use Rattle.std.proofs.shelf.Signed.{toZ-ofZ}
 use Rattle.model.specs.Bytes.{amount-of, change-of}
 use Rattle.model.proofs.Numbers.{slope-alone, slope-no-constant, slope-no-change, slope-both, change-none}
-use Rattle.text.proofs.token.slope_of.Needs as need
+use Rattle.text.proofs.number.slope_of.Needs as need
 
 pub returns-in-Some : need.returns-in-Some
 returns-in-Some c =

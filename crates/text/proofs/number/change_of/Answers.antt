@@ -7,7 +7,7 @@ use Rattle.std.proofs.shelf.Lists.{getD-past}
 use Rattle.std.proofs.shelf.Parts.{between-to-end}
 use Rattle.model.specs.Bytes.{natural-of, minus, change-of}
 use Rattle.model.proofs.Numbers.{change-plus, change-minus, change-none}
-use Rattle.text.proofs.token.change_of.Needs as need
+use Rattle.text.proofs.number.change_of.Needs as need
 
 pub returns-then-run-eq0 : need.returns-then-run-eq0
 returns-then-run-eq0 c =

@@ -1,6 +1,6 @@
 use borrow.Author.Needs.{needs}
 use Rattle.model.specs.Bytes.{plain-of}
-use Rattle.text.proofs.token.plain_of.Needs as need
+use Rattle.text.proofs.number.plain_of.Needs as need
 
 pub returns-then-same : need.returns-then-same
 unfolding plain-of

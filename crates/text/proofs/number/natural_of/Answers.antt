@@ -9,8 +9,8 @@ use Rattle.std.proofs.shelf.Lists.{take-all, length-take-le}
 use Rattle.std.proofs.shelf.Tests.{eqb-true, eqb-false}
 use Rattle.model.specs.Bytes.{natural-of}
 use Rattle.model.proofs.Numbers.{digit-value, short-value, no-natural-empty, no-natural-long, no-natural-zero, no-natural-byte, natural-digits}
-use Rattle.text.proofs.token.natural_of.Needs as need
-use Rattle.text.proofs.token.natural_of.Needs.{Else-not-is-ascii-digit, then-is-empty·by·then-is-empty, then-is-empty·by·else-is-empty·then-run-gt7, then-is-empty·by·else-is-empty·else-run-gt7·then-run-eq48}
+use Rattle.text.proofs.number.natural_of.Needs as need
+use Rattle.text.proofs.number.natural_of.Needs.{Else-not-is-ascii-digit, then-is-empty·by·then-is-empty, then-is-empty·by·else-is-empty·then-run-gt7, then-is-empty·by·else-is-empty·else-run-gt7·then-run-eq48}
 
 pub returns-then-is-empty : need.returns-then-is-empty
 returns-then-is-empty c =

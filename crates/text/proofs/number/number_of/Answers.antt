@@ -13,16 +13,13 @@ use Rattle.std.proofs.shelf.Lists.{getD-past}
 use Rattle.std.proofs.shelf.Signed.{toZ-ofZ}
 use Rattle.model.specs.Bytes.{slope-of, plain-of, number-of}
 use Rattle.model.proofs.Numbers.{number-index, number-plain}
-use Rattle.model.proofs.Numerals.{reads-back}
-use Rattle.text.proofs.token.number_of.Needs as need
-use Rattle.text.proofs.token.number_of.Needs.{else-n-gt0·by·then-n-gt0·else-run-n-eq105, else-n-gt0·by·else-n-gt0}
+use Rattle.text.proofs.number.number_of.Needs as need
+use Rattle.text.proofs.number.number_of.Needs.{else-n-gt0·by·then-n-gt0·else-run-n-eq105, else-n-gt0·by·else-n-gt0}
 
 pub returns-then-run-n-eq105 : need.returns-then-run-n-eq105
 returns-then-run-n-eq105 c =
-    let value =
     c .slope-of .ensures ∙ ap (λ n. slope-of (take n (c .args .run .now))) (sub-zero (length (c .args .run .now) - 1))
-    ∙ sym (number-index (c .args .run .now) (c .if-run-n-eq105 .taken)) in
-    record { value = value; back = reads-back (c .args .run .now) _ value }
+    ∙ sym (number-index (c .args .run .now) (c .if-run-n-eq105 .taken))
 
 pub returns-in-Break-constant : need.returns-in-Break-constant
 returns-in-Break-constant c =
@@ -30,8 +27,7 @@ returns-in-Break-constant c =
       | else-n-gt0·by·then-n-gt0·else-run-n-eq105 w ↦ w .if-run-n-eq105 .left
       | else-n-gt0·by·else-n-gt0 w ↦ λ e. omega (arith, getD-past (c .args .run .now) (length (c .args .run .now) - 1) 0 (omega arith))
     ] in
-    let value = c .from-residual .ensures ∙ sym (number-plain (c .args .run .now) last ∙ ap (mapped (λ a. (a, pos 0))) (sym (c .in-Break-constant .ensures tt))) in
-    record { value = value; back = reads-back (c .args .run .now) _ value }
+    c .from-residual .ensures ∙ sym (number-plain (c .args .run .now) last ∙ ap (mapped (λ a. (a, pos 0))) (sym (c .in-Break-constant .ensures tt)))
 
 pub returns : need.returns
 returns c =
@@ -40,7 +36,5 @@ returns c =
       | else-n-gt0·by·else-n-gt0 w ↦ λ e. omega (arith, getD-past (c .args .run .now) (length (c .args .run .now) - 1) 0 (omega arith))
     ] in
     let fits : SFits w64 (c .in-Continue-constant .constant) = search needs in
-    let value =
     ap (λ z. Some (z, pos 0)) (toZ-ofZ w64 _ fits)
-    ∙ sym (number-plain (c .args .run .now) last ∙ ap (mapped (λ a. (a, pos 0))) (sym (c .in-Continue-constant .ensures tt))) in
-    record { value = value; back = reads-back (c .args .run .now) _ value }
+    ∙ sym (number-plain (c .args .run .now) last ∙ ap (mapped (λ a. (a, pos 0))) (sym (c .in-Continue-constant .ensures tt)))

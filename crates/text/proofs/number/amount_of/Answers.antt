@@ -6,7 +6,7 @@ use Rattle.std.specs.Options.{mapped}
 use Rattle.std.proofs.shelf.Parts.{between-to-end}
 use Rattle.model.specs.Bytes.{natural-of, minus, amount-of}
 use Rattle.model.proofs.Numbers.{amount-minus}
-use Rattle.text.proofs.token.amount_of.Needs as need
+use Rattle.text.proofs.number.amount_of.Needs as need
 
 pub returns-then-run-eq45 : need.returns-then-run-eq45
 returns-then-run-eq45 c =

@@ -4,7 +4,7 @@ use native.Mathlib.Omega.{arith}
 use lib.ListN.{getD}
 use Rattle.std.proofs.shelf.Sums.{leading-drop-yes, leading-drop-no, leading-drop-all}
 use Rattle.text.specs.Classes.{inClass}
-use Rattle.text.proofs.token.run_end.Needs as need
+use Rattle.text.proofs.byte.run_end.Needs as need
 
 pub loop-end-again : need.loop-end-again
 loop-end-again c =
