@@ -1,12 +1,12 @@
 -- Goals as the tokens that they stand for. Assumes nothing.
 use mathlib.Core.Path.{_≡_, refl, sym, ap, subst, _∙_}
-use mathlib.Core.Bool.{true, cond}
+use mathlib.Core.Bool.{Bool, true, false, cond}
 use mathlib.Core.List.{List, [], _∷_, _++_, append-assoc}
 use Prim.Native.Nat.{ℕ, zero, suc, _-_}
-use lib.Dec.{eqb·suc-zero}
+use lib.Dec.{eqb, eqb·suc-zero}
 use lib.IntN.{ℤ, pos, negsuc}
-use lib.ListN.{replicate}
-use Rattle.std.proofs.shelf.Tests.{and-parts, and-from}
+use lib.ListN.{getD, replicate}
+use Rattle.std.proofs.shelf.Tests.{and-parts, and-from, eqb-true}
 use Rattle.model.specs.declared.node.Placement.{Placement}
 use Rattle.model.specs.declared.node.Placement.the-variants as by
 use Rattle.model.specs.declared.node.Operator.{Operator}
@@ -20,7 +20,8 @@ use Rattle.model.specs.Syntax.{Kind, solid, vector, Sort, one, many, num, Head
 use Rattle.model.specs.Syntax as S
 use Rattle.model.specs.Tokens.{Token, bracket, placement-word, operator-word, opening, closing, tokens, row}
 use Rattle.model.specs.Tokens as T
-use Rattle.model.specs.Grammar.{Goal, element, list, inSolid, inList, elements, mark, union, index, placement, plain, entry, Move, stuck, on, entries, ifMark, ifZero, atUnion, atIndex, atPlacement, atEmpty, solidWord, listWord, atElement, move}
+use Rattle.model.specs.Bytes.{words}
+use Rattle.model.specs.Grammar.{Goal, element, list, inSolid, inList, elements, mark, union, index, placement, plain, entry, Move, stuck, on, entries, ifMark, ifZero, rank, ifWord, atPlacement, solidWord, listWord, atElement, move}
 use Rattle.model.specs.Grammar as G
 use Rattle.model.proofs.Once.{clash, next, spelled, spelled-row}
 
@@ -270,62 +271,31 @@ by-zero (pos zero) gs us h = (refl, h)
 by-zero (pos (suc n)) gs us h = absurd (subst (λ b. After (cond b (on gs) stuck) us) (eqb·suc-zero n) h)
 by-zero (negsuc n) gs us h = absurd h
 
-by-empty : (d : ℕ) (gs : List Goal) (x : Word) (us : List Token) → After (atEmpty d gs x) us → (x ≡ w.Empty) × GenAll gs us
-by-empty d gs w.Empty us h = (refl, h)
-by-empty d gs w.Prim us h = absurd h
-by-empty d gs w.Translate us h = absurd h
-by-empty d gs w.Scale us h = absurd h
-by-empty d gs w.Rotate us h = absurd h
-by-empty d gs w.Union us h = absurd h
-by-empty d gs w.Diff us h = absurd h
-by-empty d gs w.Inter us h = absurd h
-by-empty d gs w.Fold us h = absurd h
-by-empty d gs w.List us h = absurd h
-by-empty d gs w.Repeat us h = absurd h
-by-empty d gs w.Tabulate us h = absurd h
-by-empty d gs w.Concat us h = absurd h
-by-empty d gs w.Sort us h = absurd h
-by-empty d gs w.Unsort us h = absurd h
-by-empty d gs w.Map2 us h = absurd h
-by-empty d gs w.Index us h = absurd h
+unranked : (x : Word) → getD words (rank x) w.Empty ≡ x
+unranked w.Empty = refl
+unranked w.Prim = refl
+unranked w.Translate = refl
+unranked w.Scale = refl
+unranked w.Rotate = refl
+unranked w.Union = refl
+unranked w.Diff = refl
+unranked w.Inter = refl
+unranked w.Fold = refl
+unranked w.List = refl
+unranked w.Repeat = refl
+unranked w.Tabulate = refl
+unranked w.Concat = refl
+unranked w.Sort = refl
+unranked w.Unsort = refl
+unranked w.Map2 = refl
+unranked w.Index = refl
 
-by-union : (x : Word) (gs : List Goal) (us : List Token) → After (atUnion x gs) us → (x ≡ w.Union) × GenAll gs us
-by-union w.Empty gs us h = absurd h
-by-union w.Prim gs us h = absurd h
-by-union w.Translate gs us h = absurd h
-by-union w.Scale gs us h = absurd h
-by-union w.Rotate gs us h = absurd h
-by-union w.Union gs us h = (refl, h)
-by-union w.Diff gs us h = absurd h
-by-union w.Inter gs us h = absurd h
-by-union w.Fold gs us h = absurd h
-by-union w.List gs us h = absurd h
-by-union w.Repeat gs us h = absurd h
-by-union w.Tabulate gs us h = absurd h
-by-union w.Concat gs us h = absurd h
-by-union w.Sort gs us h = absurd h
-by-union w.Unsort gs us h = absurd h
-by-union w.Map2 gs us h = absurd h
-by-union w.Index gs us h = absurd h
-
-by-index : (x : Word) (gs : List Goal) (us : List Token) → After (atIndex x gs) us → (x ≡ w.Index) × GenAll gs us
-by-index w.Empty gs us h = absurd h
-by-index w.Prim gs us h = absurd h
-by-index w.Translate gs us h = absurd h
-by-index w.Scale gs us h = absurd h
-by-index w.Rotate gs us h = absurd h
-by-index w.Union gs us h = absurd h
-by-index w.Diff gs us h = absurd h
-by-index w.Inter gs us h = absurd h
-by-index w.Fold gs us h = absurd h
-by-index w.List gs us h = absurd h
-by-index w.Repeat gs us h = absurd h
-by-index w.Tabulate gs us h = absurd h
-by-index w.Concat gs us h = absurd h
-by-index w.Sort gs us h = absurd h
-by-index w.Unsort gs us h = absurd h
-by-index w.Map2 gs us h = absurd h
-by-index w.Index gs us h = (refl, h)
+by-word : (x y : Word) (m : Move) (us : List Token) → After (ifWord x y m) us → (x ≡ y) × After m us
+by-word x y m us h = go (eqb (rank x) (rank y)) refl h
+  where
+    go : (b : Bool) → eqb (rank x) (rank y) ≡ b → After (cond b m stuck) us → (x ≡ y) × After m us
+    go true q h = (sym (unranked x) ∙ ap (λ n. getD words n w.Empty) (eqb-true (rank x) (rank y) q) ∙ unranked y, h)
+    go false q h = absurd h
 
 by-placement : (x : Word) (gs : List Goal) (us : List Token) → After (atPlacement x gs) us → (t : Placement) × (x ≡ placement-word t) × GenAll gs us
 by-placement w.Empty gs us h = absurd h
@@ -415,7 +385,7 @@ list-back k d gs w.Index us h = absurd h
 
 element-back : (k : Kind) (d : ℕ) (gs : List Goal) (t : Token) (us : List Token) → After (atElement k d gs t) us → GenAll (element k d ∷ gs) (t ∷ us)
 unfolding tokens row textual textuals
-element-back solid d gs (T.word x) us h = let b = by-empty d gs x us h in (us, (node S.empty none, refl, ap (λ y. T.word y ∷ us) (b .0)), b .1)
+element-back solid d gs (T.word x) us h = let b = by-word x w.Empty (G.node d gs) us h in (us, (node S.empty none, refl, ap (λ y. T.word y ∷ us) (b .0)), b .1)
 element-back solid d gs (T.number a c) us h = absurd h
 element-back solid d gs (T.mark m) us h = let b = by-mark Open m (G.node d (inSolid (d - 1) ∷ gs)) us h in subst (λ y. GenAll (element solid d ∷ gs) (T.mark y ∷ us)) (b .0) (b .1)
 element-back vector d gs (T.word x) us h = absurd h
@@ -459,10 +429,10 @@ back (elements k d) gs (T.mark m) us h = elements-mark k d gs m us h
 back (mark n) gs (T.word x) us h = absurd h
 back (mark n) gs (T.number a c) us h = absurd h
 back (mark n) gs (T.mark m) us h = let b = by-mark n m (on gs) us h in (us, ap (λ y. T.mark y ∷ us) (sym (b .0)), b .1)
-back union gs (T.word x) us h = let b = by-union x gs us h in (us, ap (λ y. T.word y ∷ us) (b .0), b .1)
+back union gs (T.word x) us h = let b = by-word x w.Union (on gs) us h in (us, ap (λ y. T.word y ∷ us) (b .0), b .1)
 back union gs (T.number a c) us h = absurd h
 back union gs (T.mark m) us h = absurd h
-back index gs (T.word x) us h = let b = by-index x gs us h in (us, ap (λ y. T.word y ∷ us) (b .0), b .1)
+back index gs (T.word x) us h = let b = by-word x w.Index (on gs) us h in (us, ap (λ y. T.word y ∷ us) (b .0), b .1)
 back index gs (T.number a c) us h = absurd h
 back index gs (T.mark m) us h = absurd h
 back placement gs (T.word x) us h = let b = by-placement x gs us h in (us, (b .0, ap (λ y. T.word y ∷ us) (b .1)), b .2)

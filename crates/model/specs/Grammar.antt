@@ -41,6 +41,31 @@ pub data Move : Type 0 where
 abbrev pub entries : List Goal → List Goal
 entries gs = entry ∷ mark Comma ∷ entry ∷ mark Comma ∷ entry ∷ mark Right ∷ gs
 
+-- words told apart
+abbrev pub rank : Word → ℕ
+rank w.Empty = 0
+rank w.Prim = 1
+rank w.Translate = 2
+rank w.Scale = 3
+rank w.Rotate = 4
+rank w.Union = 5
+rank w.Diff = 6
+rank w.Inter = 7
+rank w.Fold = 8
+rank w.List = 9
+rank w.Repeat = 10
+rank w.Tabulate = 11
+rank w.Concat = 12
+rank w.Sort = 13
+rank w.Unsort = 14
+rank w.Map2 = 15
+rank w.Index = 16
+
+-- this word, and no other
+abbrev pub ifWord : Word → Word → Move → Move
+ifWord x y m = cond (eqb (rank x) (rank y)) m stuck
+
+-- this mark, and no other
 abbrev pub ifMark : Mark → Mark → Move → Move
 ifMark Open Open m = m
 ifMark Open Close m = stuck
@@ -68,45 +93,7 @@ ifMark Comma Left m = stuck
 ifMark Comma Right m = stuck
 ifMark Comma Comma m = m
 
--- the words that stand alone
-abbrev pub atUnion : Word → List Goal → Move
-atUnion w.Empty gs = stuck
-atUnion w.Prim gs = stuck
-atUnion w.Translate gs = stuck
-atUnion w.Scale gs = stuck
-atUnion w.Rotate gs = stuck
-atUnion w.Union gs = on gs
-atUnion w.Diff gs = stuck
-atUnion w.Inter gs = stuck
-atUnion w.Fold gs = stuck
-atUnion w.List gs = stuck
-atUnion w.Repeat gs = stuck
-atUnion w.Tabulate gs = stuck
-atUnion w.Concat gs = stuck
-atUnion w.Sort gs = stuck
-atUnion w.Unsort gs = stuck
-atUnion w.Map2 gs = stuck
-atUnion w.Index gs = stuck
-
-abbrev pub atIndex : Word → List Goal → Move
-atIndex w.Empty gs = stuck
-atIndex w.Prim gs = stuck
-atIndex w.Translate gs = stuck
-atIndex w.Scale gs = stuck
-atIndex w.Rotate gs = stuck
-atIndex w.Union gs = stuck
-atIndex w.Diff gs = stuck
-atIndex w.Inter gs = stuck
-atIndex w.Fold gs = stuck
-atIndex w.List gs = stuck
-atIndex w.Repeat gs = stuck
-atIndex w.Tabulate gs = stuck
-atIndex w.Concat gs = stuck
-atIndex w.Sort gs = stuck
-atIndex w.Unsort gs = stuck
-atIndex w.Map2 gs = stuck
-atIndex w.Index gs = on gs
-
+-- a placement's word
 abbrev pub atPlacement : Word → List Goal → Move
 atPlacement w.Empty gs = stuck
 atPlacement w.Prim gs = stuck
@@ -125,26 +112,6 @@ atPlacement w.Sort gs = stuck
 atPlacement w.Unsort gs = stuck
 atPlacement w.Map2 gs = stuck
 atPlacement w.Index gs = stuck
-
--- a solid that is no bracket
-abbrev pub atEmpty : ℕ → List Goal → Word → Move
-atEmpty d gs w.Empty = node d gs
-atEmpty d gs w.Prim = stuck
-atEmpty d gs w.Translate = stuck
-atEmpty d gs w.Scale = stuck
-atEmpty d gs w.Rotate = stuck
-atEmpty d gs w.Union = stuck
-atEmpty d gs w.Diff = stuck
-atEmpty d gs w.Inter = stuck
-atEmpty d gs w.Fold = stuck
-atEmpty d gs w.List = stuck
-atEmpty d gs w.Repeat = stuck
-atEmpty d gs w.Tabulate = stuck
-atEmpty d gs w.Concat = stuck
-atEmpty d gs w.Sort = stuck
-atEmpty d gs w.Unsort = stuck
-atEmpty d gs w.Map2 = stuck
-atEmpty d gs w.Index = stuck
 
 -- the word after a solid's bracket; its parts have d levels left
 abbrev pub solidWord : ℕ → List Goal → Word → Move
@@ -193,7 +160,7 @@ listWord k d gs w.Index = stuck
 
 -- an element begins with a bracket of its own form, or is Empty
 abbrev pub atElement : Kind → ℕ → List Goal → Token → Move
-atElement solid d gs (T.word x) = atEmpty d gs x
+atElement solid d gs (T.word x) = ifWord x w.Empty (node d gs)
 atElement solid d gs (T.number a c) = stuck
 atElement solid d gs (T.mark m) = ifMark Open m (node d (inSolid (d - 1) ∷ gs))
 atElement vector d gs (T.word x) = stuck
@@ -231,10 +198,10 @@ move (elements k d) gs (T.mark m) = atElements m (on gs) (atElement k d (element
 move (mark n) gs (T.word x) = stuck
 move (mark n) gs (T.number a c) = stuck
 move (mark n) gs (T.mark m) = ifMark n m (on gs)
-move union gs (T.word x) = atUnion x gs
+move union gs (T.word x) = ifWord x w.Union (on gs)
 move union gs (T.number a c) = stuck
 move union gs (T.mark m) = stuck
-move index gs (T.word x) = atIndex x gs
+move index gs (T.word x) = ifWord x w.Index (on gs)
 move index gs (T.number a c) = stuck
 move index gs (T.mark m) = stuck
 move placement gs (T.word x) = atPlacement x gs
