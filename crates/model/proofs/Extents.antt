@@ -40,7 +40,7 @@ parts-le (more (node h ds) es) = let r = parts-le es in let l = length-append (f
 pub split-cons : {n m : Node} {xs ys : List Node} → n ∷ xs ≡ m ∷ ys → (n ≡ m) × (xs ≡ ys)
 split-cons e = (cc, cc)
 
-some≢none : {n : Node} {xs : List Node} → [] ≡ n ∷ xs → ⊥
+pub some≢none : {n : Node} {xs : List Node} → [] ≡ n ∷ xs → ⊥
 some≢none e = let z : _≡_ {A = ℕ} 0 1 = cc in omega arith
 
 -- as many parts as a node asks for, though the code's count is cut off at the greatest number

@@ -1,0 +1,4 @@
+pub mod Puts
+pub mod Signs
+pub mod Programs
+pub mod Tables
