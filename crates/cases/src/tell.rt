@@ -2,6 +2,7 @@
 use model::Layer;
 use model::Refusal;
 use model::Table;
+use std::alloc::Global;
 use std::error::AnyError;
 
 // The longest text that is shown.
@@ -38,6 +39,20 @@ fn tell_text(rt: &LibcRuntime, text: &[u8]) -> Result<(), AnyError> {
     Ok(())
 }
 
+// Whether a buffer that is a byte too short is refused with 16 and stays as it was.
+fn refuses_short(heap: Global, table: &Table, n: usize) -> Result<bool, AnyError> {
+    let mut short = vec![in heap; b'.'; n.saturating_sub(1)]?;
+    let Err(refusal) = writer::write(table, short.as_mut_slice()) else {
+        return Ok(false);
+    };
+    for b in short.as_slice() {
+        if *b != b'.' {
+            return Ok(false);
+        }
+    }
+    Ok(refusal.number() == 16)
+}
+
 /// Prints the outcome, and for a program its size, its depth, its text, and whether that reads back as itself.
 pub fn tell(rt: &LibcRuntime, text: &[u8], table: &mut Table, again: &mut Table, out: &mut [u8]) -> Result<(), AnyError> {
     if let Err(refusal) = text::read(text, table) {
@@ -54,7 +69,7 @@ pub fn tell(rt: &LibcRuntime, text: &[u8], table: &mut Table, again: &mut Table,
         return Ok(());
     };
     let back = text::read(written, again).is_ok() && again.same(table);
-    let reads = if back { "reads back" } else { "is lost" };
+    let reads = if back && refuses_short(rt.alloc(), table, n)? { "reads back" } else { "is lost" };
     print!(rt, "  => size {size}, depth {depth}, {reads}: ")?;
     tell_text(rt, written)
 }
