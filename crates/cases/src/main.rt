@@ -18,7 +18,13 @@ fn run(rt: &LibcRuntime) -> Result<(), AnyError> {
         let line = line?;
         let text = text_of_line(heap, line.as_bytes())?;
         rt.print(line.as_str())?;
-        tell(rt, text.as_slice(), &mut table, &mut again, out.as_mut_slice())?;
+        tell(
+            rt,
+            text.as_slice(),
+            &mut table,
+            &mut again,
+            out.as_mut_slice(),
+        )?;
     }
     Ok(())
 }

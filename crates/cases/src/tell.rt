@@ -54,7 +54,13 @@ fn refuses_short(heap: Global, table: &Table, n: usize) -> Result<bool, AnyError
 }
 
 /// Prints the outcome, and for a program its size, its depth, its text, and whether that reads back as itself.
-pub fn tell(rt: &LibcRuntime, text: &[u8], table: &mut Table, again: &mut Table, out: &mut [u8]) -> Result<(), AnyError> {
+pub fn tell(
+    rt: &LibcRuntime,
+    text: &[u8],
+    table: &mut Table,
+    again: &mut Table,
+    out: &mut [u8],
+) -> Result<(), AnyError> {
     if let Err(refusal) = text::read(text, table) {
         return tell_refusal(rt, refusal);
     }
@@ -69,7 +75,11 @@ pub fn tell(rt: &LibcRuntime, text: &[u8], table: &mut Table, again: &mut Table,
         return Ok(());
     };
     let back = text::read(written, again).is_ok() && again.same(table);
-    let reads = if back && refuses_short(rt.alloc(), table, n)? { "reads back" } else { "is lost" };
+    let reads = if back && refuses_short(rt.alloc(), table, n)? {
+        "reads back"
+    } else {
+        "is lost"
+    };
     print!(rt, "  => size {size}, depth {depth}, {reads}: ")?;
     tell_text(rt, written)
 }

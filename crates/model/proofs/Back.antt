@@ -9,6 +9,7 @@ use native.Mathlib.Omega.{arith}
 use lib.Dec.{ltb}
 use lib.ListN.{length, length-append, length-map, replicate}
 use Rattle.std.proofs.shelf.Tests.{cond-true, and-parts, and-from, ltb-true, lt-ltb}
+use Rattle.model.specs.Limits.{most-levels}
 use Rattle.model.specs.declared.node.Placement.the-variants as by
 use Rattle.model.specs.declared.node.Operator.the-variants as op
 use Rattle.model.specs.declared.word.Mark.the-variants.{Close}
@@ -19,7 +20,7 @@ use Rattle.model.specs.Syntax as S
 use Rattle.model.specs.Tokens.{Token, opening, closing, tokens, row}
 use Rattle.model.specs.Tokens as T
 use Rattle.model.specs.Feed.{Feed, token, bad, end, said, Clean}
-use Rattle.model.specs.Grammar.{Goal, element, elements, mark, run, room, Outcome, whole, refused, judged, most-levels}
+use Rattle.model.specs.Grammar.{Goal, element, elements, mark, run, room, Outcome, whole, refused, judged}
 use Rattle.model.specs.Readings.{spelling, firsts, firsts-in, first-over, Reads-back, Within, First-over}
 use Rattle.model.proofs.Once.{clash, fewer, one-reading}
 use Rattle.model.proofs.Derive.{wanted, first-textual, parts-textual, no-number}

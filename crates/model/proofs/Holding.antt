@@ -43,8 +43,10 @@ program-nodes ns e = sym (only-nodes (read (one solid ∷ []) ns)) ∙ read-node
 -- and the nodes of expressions pass the test
 mutual
   unfolding flatten flattens
+
   sorted-one : {s : Sort} (e : Expr s) (ss : List Sort) (r : List Node) → sorted (s ∷ ss) (flatten e ++ r) ≡ sorted ss r
   sorted-one (node {s} h es) ss r = ap (λ o. sortedOn o (λ g. sorted (arity g ++ ss) (flattens es ++ r))) (headed h) ∙ sorted-more es ss r
+
   sorted-more : {as′ : List Sort} (es : Exprs as′) (ss : List Sort) (r : List Node) → sorted (as′ ++ ss) (flattens es ++ r) ≡ sorted ss r
   sorted-more none ss r = refl
   sorted-more (more {s = s} {ss = as′} e es) ss r = ap (sorted (s ∷ (as′ ++ ss))) (append-assoc (flatten e) (flattens es) r) ∙ sorted-one e (as′ ++ ss) (flattens es ++ r) ∙ sorted-more es ss r

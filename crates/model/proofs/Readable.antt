@@ -45,9 +45,11 @@ same-node h h′ p es es′ r r′ k q = pathJ (λ g _. (fs : Exprs (arity g)) �
 
 mutual
   unfolding flatten flattens
+
   pub reads : {s : Sort} (e e′ : Expr s) (r r′ : List Node) → flatten e ++ r ≡ flatten e′ ++ r′ → (e ≡ e′) × (r ≡ r′)
   reads (node h es) (node h′ es′) r r′ q =
       same-node h h′ (same-head h h′ (head-eq-of-cons-eq q)) es es′ r r′ (λ f. reads-all es f r r′) (tail-eq-of-cons-eq q)
+
   pub reads-all : {ss : List Sort} (es es′ : Exprs ss) (r r′ : List Node) → flattens es ++ r ≡ flattens es′ ++ r′ → (es ≡ es′) × (r ≡ r′)
   reads-all none none r r′ q = (refl, q)
   reads-all (more e es) (more e′ es′) r r′ q =
@@ -57,8 +59,10 @@ mutual
 
 mutual
   unfolding flatten flattens size sizes
+
   pub length-flatten : {s : Sort} (e : Expr s) → length (flatten e) ≡ size e
   length-flatten (node h es) = ap suc (length-flattens es)
+
   pub length-flattens : {ss : List Sort} (es : Exprs ss) → length (flattens es) ≡ sizes es
   length-flattens none = refl
   length-flattens (more e es) = length-append (flatten e) (flattens es) ∙ ap₂ _+_ (length-flatten e) (length-flattens es)

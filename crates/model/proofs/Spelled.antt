@@ -88,8 +88,8 @@ node-text h es = opening-text (node-of h) ++ (part-texts es ++ closing-text (nod
 
 -- a node, if its parts are spelled so
 spells-node : (b : Bool) {s : Sort} (h : Head s) (es : Exprs (arity h)) (us : List Token)
-  → spells false (row es ++ (closing h ++ us)) ≡ part-texts es ++ spells false (closing h ++ us)
-  → spells b (tokens (node h es) ++ us) ≡ gap b ++ (node-text h es ++ spells false us)
+    → spells false (row es ++ (closing h ++ us)) ≡ part-texts es ++ spells false (closing h ++ us)
+    → spells b (tokens (node h es) ++ us) ≡ gap b ++ (node-text h es ++ spells false us)
 unfolding tokens
 spells-node b h es us parts =
     let o = opening-text (node-of h) in
@@ -108,6 +108,7 @@ text-if h es parts = ap (spells true) (sym (append-nil (tokens (node h es)))) �
 
 mutual
   unfolding row
+
   spells-expr : (b : Bool) {s : Sort} (e : Expr s) (us : List Token) → spells b (tokens e ++ us) ≡ gap b ++ (text-of e ++ spells false us)
   spells-expr b (node h es) us =
       spells-node b h es us (spells-row es (closing h ++ us))
@@ -139,12 +140,14 @@ spaced n = own-length n + 1
 
 mutual
   unfolding flatten flattens
+
   pub length-text : {s : Sort} (e : Expr s) → length (text-of e) + 1 ≡ sumBy spaced (flatten e)
   length-text (node h es) =
       let mine = length-node h es in
       let rest = length-parts es in
       let cons = sumBy-cons spaced (node-of h) (flattens es) in
       omega arith
+
   length-parts : {ss : List Sort} (es : Exprs ss) → length (part-texts es) ≡ sumBy spaced (flattens es)
   length-parts none = refl
   length-parts (more e es) =

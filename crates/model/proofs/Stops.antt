@@ -6,12 +6,13 @@ use Prim.Native.Nat.{ℕ, suc, _+_}
 use native.Mathlib.Omega.{arith}
 use lib.ListN.{length}
 use Rattle.std.proofs.shelf.Tests.{cond-both, cond-true, cond-false}
+use Rattle.model.specs.Limits.{most-levels}
 use Rattle.model.specs.declared.refusal.Span.{Span}
 use Rattle.model.specs.declared.refusal.Refusal.the-variants.{NoToken, NoSolid, TooLarge}
 use Rattle.model.specs.Syntax.{solid, Solid, textual}
 use Rattle.model.specs.Tokens.{Token, tokens}
 use Rattle.model.specs.Feed.{Feed, token, bad, end, said, Clean}
-use Rattle.model.specs.Grammar.{Goal, element, Move, stuck, on, node, move, moved, room, run, Outcome, whole, refused, judged, most-levels}
+use Rattle.model.specs.Grammar.{Goal, element, Move, stuck, on, node, move, moved, room, run, Outcome, whole, refused, judged}
 use Rattle.model.specs.Readings.{before, spelling, GoesOn, Halt, at-token, at-end, Whole-reading, First-stop, First-bad}
 use Rattle.model.proofs.Once.{clash}
 use Rattle.model.proofs.Derive.{GenAll, After, forth, back, met}

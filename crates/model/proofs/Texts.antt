@@ -9,6 +9,7 @@ use lib.Dec.{ltb}
 use lib.ListN.{length}
 use borrow.Author.Tests.{ltb-true, false-leb}
 use Rattle.std.proofs.shelf.Tests.{cond-true}
+use Rattle.model.specs.Limits.{most-bytes}
 use Rattle.model.specs.declared.refusal.Span.{Span}
 use Rattle.model.specs.declared.refusal.Refusal.{Refusal}
 use Rattle.model.specs.declared.refusal.Refusal.the-variants.{NoToken, NoSolid, TooLarge}
@@ -16,7 +17,7 @@ use Rattle.model.specs.Syntax.{Solid, textual, size, depth}
 use Rattle.model.specs.Tokens.{tokens}
 use Rattle.model.specs.Feed.{said}
 use Rattle.model.specs.Grammar.{Outcome, whole, refused, judged}
-use Rattle.model.specs.Texts.{most-bytes, past-end, feed-of, Accepts, Bad-token, No-program, Past-limit, Refuses, outcome, Both-ways}
+use Rattle.model.specs.Texts.{past-end, feed-of, Accepts, Bad-token, No-program, Past-limit, Refuses, outcome, Both-ways}
 use Rattle.model.proofs.Once.{one-reading}
 use Rattle.model.proofs.Stops.{first-stop, first-bad, whole-reading}
 use Rattle.model.proofs.Back.{reads-back, within, over-first}
@@ -40,6 +41,7 @@ refuses text f = by-length text (λ o. o ≡ refused f → Refuses text f) (λ l
     too-long (NoToken s) long q = clash (cc)
     too-long (NoSolid s) long q = clash (cc)
     too-long (TooLarge s) long q = inl (long, cc)
+
     stopped : (f : Refusal) → length text ≤ most-bytes → judged (feed-of text) ≡ refused f → Refuses text f
     stopped (NoToken s) short q = let h = first-bad (feed-of text) s q in record { short = short; passed = h .0; stands = h .1; goes-on = h .2 }
     stopped (NoSolid s) short q = let h = first-stop (feed-of text) s q in record { short = short; passed = h .0; rest = h .1; stands = h .2; goes-on = h .3; halts = h .4 }

@@ -4,6 +4,7 @@ use mathlib.Core.List.{List, [], _∷_, _++_}
 use Prim.Native.Nat.{ℕ, _+_, _-_}
 use lib.Dec.{ltb, eqb}
 use lib.IntN.{ℤ, pos, negsuc}
+use Rattle.model.specs.Limits.{most-nodes, most-levels}
 use Rattle.model.specs.declared.word.Word.{Word}
 use Rattle.model.specs.declared.word.Word.the-variants as w
 use Rattle.model.specs.declared.word.Mark.{Mark}
@@ -221,7 +222,7 @@ pub data Outcome : Type 0 where
 
 -- one more node fits
 abbrev pub room : ℕ → ℕ → Bool
-room d n = ltb 0 d && ltb n 640
+room d n = ltb 0 d && ltb n most-nodes
 
 abbrev pub moved : Move → (List Goal → ℕ → Outcome) → ℕ → Span → Outcome
 moved stuck k n s = refused (NoSolid s)
@@ -235,10 +236,6 @@ run (end b) [] n = whole n
 run (end b) (g ∷ gs) n = refused (NoSolid (record { at = b; len = 0 }))
 run (token t s f) [] n = refused (NoSolid s)
 run (token t s f) (g ∷ gs) n = moved (move g gs t) (run f) n s
-
--- the deepest program
-abbrev pub most-levels : ℕ
-most-levels = 256
 
 -- the outcome of a whole text's tokens
 abbrev pub judged : Feed → Outcome

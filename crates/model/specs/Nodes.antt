@@ -44,6 +44,7 @@ parts (v.Number j) = 0
 unfoldable mutual
   pub flatten : {s : Sort} → Expr s → List Node
   flatten (node h es) = node-of h ∷ flattens es
+
   pub flattens : {ss : List Sort} → Exprs ss → List Node
   flattens none = []
   flattens (more e es) = flatten e ++ flattens es

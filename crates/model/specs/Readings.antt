@@ -6,12 +6,13 @@ use mathlib.Core.Option.{Option, some}
 use mathlib.Core.Option as O
 use Prim.Native.Nat.{ℕ, _+_, _-_, _≤_}
 use lib.ListN.{length}
+use Rattle.model.specs.Limits.{most-nodes, most-levels}
 use Rattle.model.specs.declared.refusal.Span.{Span}
 use Rattle.model.specs.declared.refusal.Refusal.the-variants.{NoToken, NoSolid, TooLarge}
 use Rattle.model.specs.Syntax.{Sort, Expr, Exprs, node, none, more, Solid, textual, size, depth}
 use Rattle.model.specs.Tokens.{Token, opening, tokens}
 use Rattle.model.specs.Feed.{Feed, token, bad, end, said, Clean}
-use Rattle.model.specs.Grammar.{whole, refused, room, judged, most-levels}
+use Rattle.model.specs.Grammar.{whole, refused, room, judged}
 
 -- no two programs have the same tokens
 abbrev pub One-reading : Type 0
@@ -65,11 +66,11 @@ first-over n (p ∷ ps) = cond (room (p .1) n) (first-over (n + 1) ps) (some (p 
 
 -- the text of each program within the limits is read
 abbrev pub Reads-back : Type 0
-Reads-back = (e : Solid) (f : Feed) → textual e ≡ true → size e ≤ 640 → depth e ≤ most-levels → said f ≡ tokens e → Clean f → judged f ≡ whole (size e)
+Reads-back = (e : Solid) (f : Feed) → textual e ≡ true → size e ≤ most-nodes → depth e ≤ most-levels → said f ≡ tokens e → Clean f → judged f ≡ whole (size e)
 
 -- a program that is read is within the limits, and its nodes are counted
 abbrev pub Within : Type 0
-Within = (f : Feed) (n : ℕ) (e : Solid) → judged f ≡ whole n → said f ≡ tokens e → (n ≡ size e) × (size e ≤ 640) × (depth e ≤ most-levels)
+Within = (f : Feed) (n : ℕ) (e : Solid) → judged f ≡ whole n → said f ≡ tokens e → (n ≡ size e) × (size e ≤ most-nodes) × (depth e ≤ most-levels)
 
 -- `TooLarge` stands where a node begins that is the first past a limit, in every program that begins so
 abbrev pub First-over : Type 0

@@ -6,6 +6,7 @@ use Prim.Native.Nat.{ℕ, suc, _+_, _≤_}
 use lib.IntN.{pos}
 use lib.ListN.{length}
 use Rattle.std.specs.shelf.Lists.{All, sumBy}
+use Rattle.model.specs.Limits.{most-bytes, most-nodes}
 use Rattle.model.specs.declared.node.Linear.{Linear}
 use Rattle.model.specs.declared.node.Node.{Node}
 use Rattle.model.specs.declared.node.Node.the-variants as v
@@ -98,8 +99,8 @@ Text-length = (s : Sort) (e : Expr s) → length (text-of e) + 1 ≡ sumBy (λ n
 -- each number of a vector has at most seven digits
 abbrev pub Seven-linear : Linear → Type 0
 Seven-linear a =
-  Small (a .constant .x) × Small (a .constant .y) × Small (a .constant .z)
-  × Small (a .slope .x) × Small (a .slope .y) × Small (a .slope .z)
+    Small (a .constant .x) × Small (a .constant .y) × Small (a .constant .z)
+    × Small (a .slope .x) × Small (a .slope .y) × Small (a .slope .z)
 
 -- each number that is written of a node has at most seven digits
 abbrev pub Seven-node : Node → Type 0
@@ -121,6 +122,6 @@ Seven-node (v.Number j) = Small (pos j)
 abbrev pub Seven-digits : {s : Sort} → Expr s → Type 0
 Seven-digits e = All Seven-node (flatten e)
 
--- a program of 640 nodes with such numbers is short
+-- a program with such numbers is short
 abbrev pub Short-text : Type 0
-Short-text = (s : Sort) (e : Expr s) → size e ≤ 640 → Seven-digits e → length (text-of e) ≤ 65536
+Short-text = (s : Sort) (e : Expr s) → size e ≤ most-nodes → Seven-digits e → length (text-of e) ≤ most-bytes

@@ -61,6 +61,7 @@ arity (number j) = []
 mutual
   pub data Expr : Sort → Type 0 where
     node : {s : Sort} (h : Head s) → Exprs (arity h) → Expr s
+
   pub data Exprs : List Sort → Type 0 where
     none : Exprs []
     more : {s : Sort} {ss : List Sort} → Expr s → Exprs ss → Exprs (s ∷ ss)
@@ -77,6 +78,7 @@ Empty = node empty none
 unfoldable mutual
   pub size : {s : Sort} → Expr s → ℕ
   size (node h es) = suc (sizes es)
+
   pub sizes : {ss : List Sort} → Exprs ss → ℕ
   sizes none = 0
   sizes (more e es) = size e + sizes es
@@ -85,6 +87,7 @@ unfoldable mutual
 unfoldable mutual
   pub depth : {s : Sort} → Expr s → ℕ
   depth (node h es) = suc (depths es)
+
   pub depths : {ss : List Sort} → Exprs ss → ℕ
   depths none = 0
   depths (more e es) = max (depth e) (depths es)
@@ -110,6 +113,7 @@ textual-head (number j) = false
 unfoldable mutual
   pub textual : {s : Sort} → Expr s → Bool
   textual (node h es) = textual-head h && textuals es
+
   pub textuals : {ss : List Sort} → Exprs ss → Bool
   textuals none = true
   textuals (more e es) = textual e && textuals es

@@ -7,6 +7,7 @@ use mathlib.Core.Option.{some}
 use Prim.Native.Nat.{ℕ, _≤_, _<_}
 use lib.Dec.{ltb}
 use lib.ListN.{length}
+use Rattle.model.specs.Limits.{most-bytes, most-nodes, most-levels}
 use Rattle.model.specs.declared.refusal.Span.{Span}
 use Rattle.model.specs.declared.refusal.Refusal.{Refusal}
 use Rattle.model.specs.declared.refusal.Refusal.the-variants.{NoToken, NoSolid, TooLarge}
@@ -14,16 +15,12 @@ use Rattle.model.specs.Syntax.{Solid, textual, size, depth}
 use Rattle.model.specs.Tokens.{Token, tokens}
 use Rattle.model.specs.Feed.{Feed, token, bad, said, Clean}
 use Rattle.model.specs.Lexing.{feed}
-use Rattle.model.specs.Grammar.{Outcome, refused, judged, most-levels}
+use Rattle.model.specs.Grammar.{Outcome, refused, judged}
 use Rattle.model.specs.Readings.{before, spelling, GoesOn, Halt, firsts, first-over}
-
--- the longest text
-abbrev pub most-bytes : ℕ
-most-bytes = 65536
 
 -- the first byte past it
 abbrev pub past-end : Span
-past-end = record { at = 65536; len = 0 }
+past-end = record { at = most-bytes; len = 0 }
 
 -- the tokens of a text, each with its place
 abbrev pub feed-of : List ℕ → Feed
@@ -35,7 +32,7 @@ pub record Accepts (text : List ℕ) (e : Solid) : Type 0 where
   pub clean : Clean (feed-of text)
   pub says : said (feed-of text) ≡ tokens e
   pub orderless : textual e ≡ true
-  pub small : size e ≤ 640
+  pub small : size e ≤ most-nodes
   pub shallow : depth e ≤ most-levels
 
 -- a run or byte that is no token comes first: up to it some program goes on

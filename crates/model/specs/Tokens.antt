@@ -27,10 +27,10 @@ plain n = number n (pos 0)
 -- [a,b,c]
 abbrev pub bracket : Linear → List Token
 bracket a =
-  mark Left ∷ number (a .constant .x) (a .slope .x)
-  ∷ mark Comma ∷ number (a .constant .y) (a .slope .y)
-  ∷ mark Comma ∷ number (a .constant .z) (a .slope .z)
-  ∷ mark Right ∷ []
+    mark Left ∷ number (a .constant .x) (a .slope .x)
+    ∷ mark Comma ∷ number (a .constant .y) (a .slope .y)
+    ∷ mark Comma ∷ number (a .constant .z) (a .slope .z)
+    ∷ mark Right ∷ []
 
 abbrev pub placement-word : Placement → Word
 placement-word p.Translate = w.Translate
@@ -83,6 +83,7 @@ closing (S.number j) = []
 unfoldable mutual
   pub tokens : {s : Sort} → Expr s → List Token
   tokens (node h es) = opening h ++ (row es ++ closing h)
+
   pub row : {ss : List Sort} → Exprs ss → List Token
   row none = []
   row (more e es) = tokens e ++ row es

@@ -32,7 +32,10 @@ fn term_extent(nodes: &[Node], place: usize) -> Extent
     ensures extent { λ r. ⌜ Term-extent (now (nodes .entry)) place r ⌝ }
 {
     let parts = parts_extent(nodes, place + 1, nodes[place].parts());
-    Extent { end: parts.end, depth: parts.depth + 1 }
+    Extent {
+        end: parts.end,
+        depth: parts.depth + 1,
+    }
 }
 
 // So many terms in a row: the depth is the deepest one's.
@@ -42,11 +45,17 @@ fn parts_extent(nodes: &[Node], place: usize, count: usize) -> Extent
     ensures extent { λ r. ⌜ Parts-extent (now (nodes .entry)) place count r ⌝ }
 {
     if count == 0 || place >= nodes.len() {
-        return Extent { end: place, depth: 0 };
+        return Extent {
+            end: place,
+            depth: 0,
+        };
     }
     let first = term_extent(nodes, place);
     let rest = parts_extent(nodes, first.end, count - 1);
-    Extent { end: rest.end, depth: first.depth.max(rest.depth) }
+    Extent {
+        end: rest.end,
+        depth: first.depth.max(rest.depth),
+    }
 }
 
 impl Table {

@@ -11,9 +11,21 @@ impl Refusal {
         ensures { λ r. ⌜ r ≡ report-of self ⌝ }
     {
         match self {
-            Refusal::NoToken(span) => Report { number: 1, layer: Layer::Token, span },
-            Refusal::NoSolid(span) => Report { number: 2, layer: Layer::Grammar, span },
-            Refusal::TooLarge(span) => Report { number: 3, layer: Layer::Grammar, span },
+            Refusal::NoToken(span) => Report {
+                number: 1,
+                layer: Layer::Token,
+                span,
+            },
+            Refusal::NoSolid(span) => Report {
+                number: 2,
+                layer: Layer::Grammar,
+                span,
+            },
+            Refusal::TooLarge(span) => Report {
+                number: 3,
+                layer: Layer::Grammar,
+                span,
+            },
         }
     }
 }

@@ -5,6 +5,7 @@ use mathlib.Core.List.{List, [], _∷_, _++_, append-nil}
 use Prim.Native.Nat.{ℕ, _≤_}
 use native.Mathlib.Omega.{arith}
 use lib.ListN.{length}
+use Rattle.model.specs.Limits.{most-bytes}
 use Rattle.model.specs.declared.node.Node.{Node}
 use Rattle.model.specs.Syntax.{one, solid, Exprs, none, more, Solid, size}
 use Rattle.model.specs.Nodes.{flatten, flattens}
@@ -12,7 +13,7 @@ use Rattle.model.specs.Held.{whole, program}
 use Rattle.model.specs.Tokens.{tokens, row}
 use Rattle.model.specs.Feed.{said}
 use Rattle.model.specs.Grammar as grammar
-use Rattle.model.specs.Texts.{most-bytes, feed-of, Accepts, outcome}
+use Rattle.model.specs.Texts.{feed-of, Accepts, outcome}
 use Rattle.model.proofs.Readable.{length-flatten}
 use Rattle.model.proofs.Holding.{whole-nodes, program-of}
 use Rattle.model.proofs.Texts.{accepts, told, outcome-short}

@@ -33,7 +33,10 @@ impl<'a> Lexer<'a> {
         ensures takes { λ r. ⌜ Takes (now (self .entry)) r (now (self .exit)) ⌝ }
     {
         let Some(token) = self.next()? else {
-            return Err(Refusal::NoSolid(Span { at: self.at, len: 0 }));
+            return Err(Refusal::NoSolid(Span {
+                at: self.at,
+                len: 0,
+            }));
         };
         Ok(token)
     }
@@ -62,7 +65,12 @@ impl<'a> Lexer<'a> {
         ensures goes { λ r. ⌜ ((gs : List Goal) (n : ℕ) → run (ahead (now (self .entry))) (goal.plain ∷ gs) n ≡ after r (run (ahead (now (self .exit))) gs n)) ⌝ }
     {
         let token = self.take()?;
-        let Token::Number { constant, slope: 0, .. } = token else {
+        let Token::Number {
+            constant,
+            slope: 0,
+            ..
+        } = token
+        else {
             return Err(Refusal::NoSolid(token.span()));
         };
         Ok(constant)
@@ -76,7 +84,12 @@ impl<'a> Lexer<'a> {
         ensures goes { λ r. ⌜ ((gs : List Goal) (n : ℕ) → run (ahead (now (self .entry))) (goal.entry ∷ gs) n ≡ after r (run (ahead (now (self .exit))) gs n)) ⌝ }
     {
         let token = self.take()?;
-        let Token::Number { constant, slope, .. } = token else {
+        let Token::Number {
+            constant,
+            slope,
+            ..
+        } = token
+        else {
             return Err(Refusal::NoSolid(token.span()));
         };
         Ok((constant, slope))
@@ -90,7 +103,11 @@ impl<'a> Lexer<'a> {
         ensures goes { λ r. ⌜ ((gs : List Goal) (n : ℕ) → run (ahead (now (self .entry))) (goal.union ∷ gs) n ≡ after r (run (ahead (now (self .exit))) gs n)) ⌝ }
     {
         let token = self.take()?;
-        let Token::Word { word: Word::Union, .. } = token else {
+        let Token::Word {
+            word: Word::Union,
+            ..
+        } = token
+        else {
             return Err(Refusal::NoSolid(token.span()));
         };
         Ok(())
@@ -104,7 +121,11 @@ impl<'a> Lexer<'a> {
         ensures goes { λ r. ⌜ ((gs : List Goal) (n : ℕ) → run (ahead (now (self .entry))) (goal.index ∷ gs) n ≡ after r (run (ahead (now (self .exit))) gs n)) ⌝ }
     {
         let token = self.take()?;
-        let Token::Word { word: Word::Index, .. } = token else {
+        let Token::Word {
+            word: Word::Index,
+            ..
+        } = token
+        else {
             return Err(Refusal::NoSolid(token.span()));
         };
         Ok(())
@@ -154,7 +175,14 @@ impl<'a> Lexer<'a> {
         self.mark(Mark::Comma)?;
         let (z, along_z) = self.entry()?;
         self.mark(Mark::Right)?;
-        Ok(Linear { constant: Triple { x, y, z }, slope: Triple { x: along_x, y: along_y, z: along_z } })
+        Ok(Linear {
+            constant: Triple { x, y, z },
+            slope: Triple {
+                x: along_x,
+                y: along_y,
+                z: along_z,
+            },
+        })
     }
 
     // A vector.

@@ -20,7 +20,10 @@ pub fn read(text: &[u8], table: &mut Table) -> Result<(), Refusal>
     ensures reading { λ r. ⌜ Reading (now (text .entry)) (now (table .entry)) r (now (table .exit)) ⌝ }
 {
     if text.len() > MOST_BYTES {
-        return Err(Refusal::TooLarge(Span { at: MOST_BYTES, len: 0 }));
+        return Err(Refusal::TooLarge(Span {
+            at: MOST_BYTES,
+            len: 0,
+        }));
     }
     if let Err(refusal) = read_program(text, &mut table.spare) {
         table.spare.clear();

@@ -46,7 +46,12 @@ fn room_for(levels: u16, count: usize, span: Span) -> Result<(), Refusal>
     Ok(())
 }
 
-fn read_element(src: &mut Lexer<'_>, element: Element, levels: u16, out: &mut Vec<Node>) -> Result<(), Refusal>
+fn read_element(
+    src: &mut Lexer<'_>,
+    element: Element,
+    levels: u16,
+    out: &mut Vec<Node>,
+) -> Result<(), Refusal>
     requires { ⌜ 640 ≤ vec-cap (now out) ⌝ }
     ensures same { λ r. ⌜ now (now (src .exit) .text) ≡ now (now (src .entry) .text) ⌝ }
     ensures ahead { λ r. ⌜ made r (λ _. (now (src .entry) .at < now (src .exit) .at) × (now (src .exit) .at ≤ length (now (now (src .exit) .text)))) ⌝ }
@@ -61,7 +66,13 @@ fn read_element(src: &mut Lexer<'_>, element: Element, levels: u16, out: &mut Ve
 }
 
 // An element whose first token is taken.
-fn element_from(token: Token<'_>, src: &mut Lexer<'_>, element: Element, levels: u16, out: &mut Vec<Node>) -> Result<(), Refusal>
+fn element_from(
+    token: Token<'_>,
+    src: &mut Lexer<'_>,
+    element: Element,
+    levels: u16,
+    out: &mut Vec<Node>,
+) -> Result<(), Refusal>
     requires cap { ⌜ 640 ≤ vec-cap (now out) ⌝ }
     requires within { ⌜ now src .at ≤ length (now (now src .text)) ⌝ }
     ensures same { λ r. ⌜ now (now (src .exit) .text) ≡ now (now (src .entry) .text) ⌝ }
@@ -83,7 +94,12 @@ fn element_from(token: Token<'_>, src: &mut Lexer<'_>, element: Element, levels:
     }
 }
 
-fn vector_from(token: Token<'_>, src: &mut Lexer<'_>, levels: u16, out: &mut Vec<Node>) -> Result<(), Refusal>
+fn vector_from(
+    token: Token<'_>,
+    src: &mut Lexer<'_>,
+    levels: u16,
+    out: &mut Vec<Node>,
+) -> Result<(), Refusal>
     requires cap { ⌜ 640 ≤ vec-cap (now out) ⌝ }
     requires within { ⌜ now src .at ≤ length (now (now src .text)) ⌝ }
     ensures same { λ r. ⌜ now (now (src .exit) .text) ≡ now (now (src .entry) .text) ⌝ }
@@ -93,7 +109,11 @@ fn vector_from(token: Token<'_>, src: &mut Lexer<'_>, levels: u16, out: &mut Vec
     ensures cap { λ r. ⌜ vec-cap (now (out .exit)) ≡ vec-cap (now (out .entry)) ⌝ }
     ensures goes { λ r. ⌜ ((gs : List Goal) → judge (token .entry) (now (src .entry)) (goal.element vector levels) gs (vec-len (now (out .entry))) ≡ after r (run (ahead (now (src .exit))) gs (vec-len (now (out .exit))))) ⌝ }
 {
-    let Token::Mark { mark: Mark::Left, .. } = token else {
+    let Token::Mark {
+        mark: Mark::Left,
+        ..
+    } = token
+    else {
         return Err(Refusal::NoSolid(token.span()));
     };
     room_for(levels, out.len(), token.span())?;
@@ -102,7 +122,12 @@ fn vector_from(token: Token<'_>, src: &mut Lexer<'_>, levels: u16, out: &mut Vec
     Ok(())
 }
 
-fn solid_from(token: Token<'_>, src: &mut Lexer<'_>, levels: u16, out: &mut Vec<Node>) -> Result<(), Refusal>
+fn solid_from(
+    token: Token<'_>,
+    src: &mut Lexer<'_>,
+    levels: u16,
+    out: &mut Vec<Node>,
+) -> Result<(), Refusal>
     requires cap { ⌜ 640 ≤ vec-cap (now out) ⌝ }
     requires within { ⌜ now src .at ≤ length (now (now src .text)) ⌝ }
     ensures same { λ r. ⌜ now (now (src .exit) .text) ≡ now (now (src .entry) .text) ⌝ }
@@ -112,12 +137,19 @@ fn solid_from(token: Token<'_>, src: &mut Lexer<'_>, levels: u16, out: &mut Vec<
     ensures cap { λ r. ⌜ vec-cap (now (out .exit)) ≡ vec-cap (now (out .entry)) ⌝ }
     ensures goes { λ r. ⌜ ((gs : List Goal) → judge (token .entry) (now (src .entry)) (goal.element solid levels) gs (vec-len (now (out .entry))) ≡ after r (run (ahead (now (src .exit))) gs (vec-len (now (out .exit))))) ⌝ }
 {
-    if let Token::Word { word: Word::Empty, .. } = token {
+    if let Token::Word {
+        word: Word::Empty,
+        ..
+    } = token {
         room_for(levels, out.len(), token.span())?;
         out.push_reserved(Node::Empty);
         return Ok(());
     }
-    let Token::Mark { mark: Mark::Open, .. } = token else {
+    let Token::Mark {
+        mark: Mark::Open,
+        ..
+    } = token
+    else {
         return Err(Refusal::NoSolid(token.span()));
     };
     room_for(levels, out.len(), token.span())?;
@@ -175,7 +207,12 @@ fn read_inside(src: &mut Lexer<'_>, levels: u16, out: &mut Vec<Node>) -> Result<
     }
 }
 
-fn read_list(src: &mut Lexer<'_>, element: Element, levels: u16, out: &mut Vec<Node>) -> Result<(), Refusal>
+fn read_list(
+    src: &mut Lexer<'_>,
+    element: Element,
+    levels: u16,
+    out: &mut Vec<Node>,
+) -> Result<(), Refusal>
     requires { ⌜ 640 ≤ vec-cap (now out) ⌝ }
     ensures same { λ r. ⌜ now (now (src .exit) .text) ≡ now (now (src .entry) .text) ⌝ }
     ensures ahead { λ r. ⌜ made r (λ _. (now (src .entry) .at < now (src .exit) .at) × (now (src .exit) .at ≤ length (now (now (src .exit) .text)))) ⌝ }
@@ -185,7 +222,11 @@ fn read_list(src: &mut Lexer<'_>, element: Element, levels: u16, out: &mut Vec<N
     ensures goes { λ r. ⌜ ((gs : List Goal) → run (ahead (now (src .entry))) (goal.list (kind-of element) levels ∷ gs) (vec-len (now (out .entry))) ≡ after r (run (ahead (now (src .exit))) gs (vec-len (now (out .exit))))) ⌝ }
 {
     let token = src.take()?;
-    let Token::Mark { mark: Mark::Open, .. } = token else {
+    let Token::Mark {
+        mark: Mark::Open,
+        ..
+    } = token
+    else {
         return Err(Refusal::NoSolid(token.span()));
     };
     room_for(levels, out.len(), token.span())?;
@@ -194,7 +235,12 @@ fn read_list(src: &mut Lexer<'_>, element: Element, levels: u16, out: &mut Vec<N
 }
 
 // The rest of a list after its bracket, whose parts have `levels` left.
-fn read_inside_list(src: &mut Lexer<'_>, element: Element, levels: u16, out: &mut Vec<Node>) -> Result<(), Refusal>
+fn read_inside_list(
+    src: &mut Lexer<'_>,
+    element: Element,
+    levels: u16,
+    out: &mut Vec<Node>,
+) -> Result<(), Refusal>
     requires cap { ⌜ 640 ≤ vec-cap (now out) ⌝ }
     requires len { ⌜ vec-len (now out) < 640 ⌝ }
     ensures same { λ r. ⌜ now (now (src .exit) .text) ≡ now (now (src .entry) .text) ⌝ }
@@ -252,7 +298,12 @@ fn read_inside_list(src: &mut Lexer<'_>, element: Element, levels: u16, out: &mu
 }
 
 // The elements that are left of a list and its closing bracket; says how many they were.
-fn read_elements(src: &mut Lexer<'_>, element: Element, levels: u16, out: &mut Vec<Node>) -> Result<usize, Refusal>
+fn read_elements(
+    src: &mut Lexer<'_>,
+    element: Element,
+    levels: u16,
+    out: &mut Vec<Node>,
+) -> Result<usize, Refusal>
     requires { ⌜ 640 ≤ vec-cap (now out) ⌝ }
     ensures same { λ r. ⌜ now (now (src .exit) .text) ≡ now (now (src .entry) .text) ⌝ }
     ensures ahead { λ r. ⌜ made r (λ n. (now (src .entry) .at + n < now (src .exit) .at) × (now (src .exit) .at ≤ length (now (now (src .exit) .text)))) ⌝ }

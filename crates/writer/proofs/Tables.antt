@@ -7,10 +7,10 @@ use native.Mathlib.Omega.{arith}
 use lib.ListN.{length, take, drop}
 use Rattle.std.specs.Of.Vec.{vec-items}
 use Rattle.std.proofs.shelf.Lists.{take-append-le, take-all}
+use Rattle.model.specs.Limits.{most-levels}
 use Rattle.model.specs.declared.table.Table.{Table}
 use Rattle.model.specs.Syntax.{Expr, node, one, solid, size, textual, depth}
 use Rattle.model.specs.Nodes.{flatten}
-use Rattle.model.specs.Grammar.{most-levels}
 use Rattle.model.specs.Spelling.{text-of, Seven-digits}
 use Rattle.model.specs.Tables.{held}
 use Rattle.model.specs.Texts.{Accepts}

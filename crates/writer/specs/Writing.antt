@@ -8,12 +8,12 @@ use Rattle.std.specs.declared.result.Result.{Result}
 use Rattle.std.specs.declared.result.Result.the-variants.{Ok, Err}
 use Rattle.std.specs.shelf.Lists.{sumBy}
 use Rattle.std.specs.Vec.{made}
+use Rattle.model.specs.Limits.{most-bytes, most-levels}
 use Rattle.model.specs.declared.node.Node.{Node}
 use Rattle.model.specs.Syntax.{Sort, Expr, Exprs, Solid, textual, depth}
 use Rattle.model.specs.Nodes.{flatten, flattens}
 use Rattle.model.specs.Spelling.{text-of, part-texts, own-length, Seven-digits}
-use Rattle.model.specs.Grammar.{most-levels}
-use Rattle.model.specs.Texts.{most-bytes, Accepts}
+use Rattle.model.specs.Texts.{Accepts}
 use Rattle.writer.specs.declared.writer.Spot.{Spot}
 use Rattle.writer.specs.declared.writer.Unwritten.{Unwritten}
 use Rattle.writer.specs.declared.writer.Unwritten.the-variants.{ShortBuffer}

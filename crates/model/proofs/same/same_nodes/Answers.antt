@@ -17,5 +17,8 @@ loop-k-again c =
     take-more-same (c .args .ours .now) (c .args .theirs .now) (c .loop-k .k) Empty (omega arith) (omega arith) (c .loop-k .inv) (c .if-not-same .ensures tt .0 refl)
 
 pub returns : need.returns
-returns c = (λ e.
-    sym (take-all (c .loop-k .k) (c .args .ours .now) (omega arith)) ∙ c .loop-k .inv ∙ take-all (c .loop-k .k) (c .args .theirs .now) (omega arith), λ e. refl)
+returns c = (
+  λ e.
+      sym (take-all (c .loop-k .k) (c .args .ours .now) (omega arith)) ∙ c .loop-k .inv ∙ take-all (c .loop-k .k) (c .args .theirs .now) (omega arith),
+  λ e. refl,
+)

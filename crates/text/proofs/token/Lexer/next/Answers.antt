@@ -22,7 +22,7 @@ returns-in-Break-token c =
     rw (p .1, p .2)
     (record {
       same = refl;
-          nexts = (bad .0, bad .1, feed-token t (c .args .self .now .at) (c .run-end-self .result) (c .run-end-self .ensures .value) (omega arith) ∙ ap (λ x. fed x (feed t)) (bad .2));
+      nexts = (bad .0, bad .1, feed-token t (c .args .self .now .at) (c .run-end-self .result) (c .run-end-self .ensures .value) (omega arith) ∙ ap (λ x. fed x (feed t)) (bad .2));
     })
 
 pub add-self : need.add-self
