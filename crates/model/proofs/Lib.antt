@@ -6,6 +6,7 @@ pub mod Once
 pub mod Derive
 pub mod Stops
 pub mod Back
+pub mod Refused
 pub mod Numbers
 pub mod Numerals
 pub mod Words
