@@ -4,6 +4,7 @@ pub mod Holding
 pub mod Extents
 pub mod Once
 pub mod Derive
+pub mod Rejoin
 pub mod Stops
 pub mod Back
 pub mod Refused

@@ -65,7 +65,7 @@ passes-room : (us : List Token) → Passes us start 0 → Room-for us
 unfolding place
 passes-room us p e r x q j o =
     let here : run (fed place (0 + length us) r (end 0)) (p .0) (p .1) ≡ refused (TooLarge (place j)) =
-      sym (p .2 place 0 r (end 0)) ∙ ap (λ vs. run (fed place 0 vs (end 0)) start 0) (sym q) ∙ exact e x place 0 most-levels 0 (end 0) [] ∙ ap (λ k. ended place k (run (end 0) [] (0 + size e))) o in
+    sym (p .2 place 0 r (end 0)) ∙ ap (λ vs. run (fed place 0 vs (end 0)) start 0) (sym q) ∙ exact e x place 0 most-levels 0 (end 0) [] ∙ ap (λ k. ended place k (run (end 0) [] (0 + size e))) o in
     let l = late r (p .0) (p .1) (0 + length us) (place j) here in
     omega arith
 

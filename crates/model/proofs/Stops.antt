@@ -15,7 +15,8 @@ use Rattle.model.specs.Feed.{Feed, token, bad, end, said, Clean}
 use Rattle.model.specs.Grammar.{Goal, element, Move, stuck, on, node, move, moved, room, run, Outcome, whole, refused, judged}
 use Rattle.model.specs.Readings.{before, spelling, GoesOn, Halt, at-token, at-end, Whole-reading}
 use Rattle.model.proofs.Once.{clash}
-use Rattle.model.proofs.Derive.{GenAll, After, forth, back, met}
+use Rattle.model.proofs.Derive.{GenAll, After, forth}
+use Rattle.model.proofs.Rejoin.{back, met}
 
 -- tokens in front of a feed, with spans by their places from i on
 abbrev pub fed : (ℕ → Span) → ℕ → List Token → Feed → Feed
