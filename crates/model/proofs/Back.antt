@@ -21,10 +21,10 @@ use Rattle.model.specs.Tokens.{Token, opening, closing, tokens, row}
 use Rattle.model.specs.Tokens as T
 use Rattle.model.specs.Feed.{Feed, token, bad, end, said, Clean}
 use Rattle.model.specs.Grammar.{Goal, element, elements, mark, run, room, Outcome, whole, refused, judged}
-use Rattle.model.specs.Readings.{spelling, firsts, firsts-in, first-over, Reads-back, Within, First-over}
+use Rattle.model.specs.Readings.{spelling, firsts, firsts-in, first-over, Reads-back, Within}
 use Rattle.model.proofs.Once.{clash, fewer, one-reading}
 use Rattle.model.proofs.Derive.{wanted, first-textual, parts-textual, no-number}
-use Rattle.model.proofs.Stops.{fed, start, goes-on, judged-told, whole-reading}
+use Rattle.model.proofs.Stops.{fed, start, whole-reading}
 
 fed-append : (sp : ℕ → Span) (i : ℕ) (us vs : List Token) (f : Feed) → fed sp i (us ++ vs) f ≡ fed sp i us (fed sp (i + length us) vs f)
 fed-append sp i [] vs f = ap (λ j. fed sp j vs f) (omega arith)
@@ -292,29 +292,3 @@ within f n e p q =
     let o = ended-whole (spans f) (first-over 0 (firsts x 0 most-levels)) (size x) n (sym (outcome x f (w .1) (w .2) (w .3)) ∙ p) in
     let b = bounded x 0 0 most-levels (o .0) in
     subst (λ y. (n ≡ size y) × (size y ≤ 640) × (depth y ≤ most-levels)) (one-reading x e (sym (w .2) ∙ q)) (o .1, omega arith, b .1)
-
--- spans that say which token they are of
-place : ℕ → Span
-place j = record { at = j; len = 0 }
-
-ended-over : (o : Option ℕ) (n j : ℕ) → ended place o (whole n) ≡ refused (TooLarge (place j)) → o ≡ some j
-unfolding place
-ended-over O.none n j q = clash (cc)
-ended-over (some k) n j q = let p : place k ≡ place j = cc in ap (λ s. some (s .at)) p
-
-pub over-first : First-over
-over-first f s p =
-    let h = judged-told f (refused (TooLarge s)) p in
-    let us = spelling (h .0) in (
-      h .0,
-      h .1,
-      h .2,
-      h .3,
-      goes-on _ (h .4),
-      λ e r x q.
-          ended-over (first-over 0 (firsts e 0 most-levels)) (0 + size e) (0 + length us)
-          (sym (exact e x place 0 most-levels 0 (end 0) [])
-          ∙ ap (λ vs. run (fed place 0 vs (end 0)) start 0) (q ∙ append-assoc us (h .1 ∷ []) r)
-          ∙ h .5 place 0 r (end 0))
-          ∙ ap some (omega (arith, length-map (h .0) (λ t. t .0))),
-    )

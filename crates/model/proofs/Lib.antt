@@ -4,8 +4,10 @@ pub mod Holding
 pub mod Extents
 pub mod Once
 pub mod Derive
+pub mod Rejoin
 pub mod Stops
 pub mod Back
+pub mod Refused
 pub mod Numbers
 pub mod Numerals
 pub mod Words

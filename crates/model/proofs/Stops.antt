@@ -13,9 +13,10 @@ use Rattle.model.specs.Syntax.{solid, Solid, textual}
 use Rattle.model.specs.Tokens.{Token, tokens}
 use Rattle.model.specs.Feed.{Feed, token, bad, end, said, Clean}
 use Rattle.model.specs.Grammar.{Goal, element, Move, stuck, on, node, move, moved, room, run, Outcome, whole, refused, judged}
-use Rattle.model.specs.Readings.{before, spelling, GoesOn, Halt, at-token, at-end, Whole-reading, First-stop, First-bad}
+use Rattle.model.specs.Readings.{before, spelling, GoesOn, Halt, at-token, at-end, Whole-reading}
 use Rattle.model.proofs.Once.{clash}
-use Rattle.model.proofs.Derive.{GenAll, After, forth, back, met}
+use Rattle.model.proofs.Derive.{GenAll, After, forth}
+use Rattle.model.proofs.Rejoin.{back, met}
 
 -- tokens in front of a feed, with spans by their places from i on
 abbrev pub fed : (ℕ → Span) → ℕ → List Token → Feed → Feed
@@ -35,11 +36,18 @@ pub data Halted (gs : List Goal) (ts : List Token) (s : Span) : Feed → Type 0 
 abbrev pub Stays : List Token → Token → List Goal → ℕ → Type 0
 Stays us t gs n = (sp : ℕ → Span) (i : ℕ) (r : List Token) (f : Feed) → run (fed sp i (us ++ (t ∷ r)) f) gs n ≡ refused (TooLarge (sp (i + length us)))
 
+-- the run gets past these tokens whatever follows them, and whatever the spans
+abbrev pub Passes : List Token → List Goal → ℕ → Type 0
+Passes us gs n = (hs : List Goal) × (m : ℕ) × ((sp : ℕ → Span) (i : ℕ) (r : List Token) (f : Feed) → run (fed sp i (us ++ r) f) gs n ≡ run (fed sp (i + length us) r f) hs m)
+
+passes-none : (gs : List Goal) (n : ℕ) → Passes [] gs n
+passes-none gs n = (gs, n, λ sp i r f. ap (λ j. run (fed sp j r f) gs n) (omega arith))
+
 -- what an outcome, with n nodes so far, says of the feed and the goals
 abbrev pub Told : Feed → List Goal → ℕ → Outcome → Type 0
 Told f gs n (whole m) = GenAll gs (said f) × Clean f
-Told f gs n (refused (NoToken s)) = (ts : List (Token × Span)) × (f ≡ before ts (bad s)) × Begun gs (spelling ts)
-Told f gs n (refused (NoSolid s)) = (ts : List (Token × Span)) × (f′ : Feed) × (f ≡ before ts f′) × Begun gs (spelling ts) × Halted gs (spelling ts) s f′
+Told f gs n (refused (NoToken s)) = (ts : List (Token × Span)) × (f ≡ before ts (bad s)) × Begun gs (spelling ts) × Passes (spelling ts) gs n
+Told f gs n (refused (NoSolid s)) = (ts : List (Token × Span)) × (f′ : Feed) × (f ≡ before ts f′) × Begun gs (spelling ts) × Halted gs (spelling ts) s f′ × Passes (spelling ts) gs n
 Told f gs n (refused (TooLarge s)) = (ts : List (Token × Span)) × (t : Token) × (f′ : Feed) × (f ≡ before ts (token t s f′)) × Begun gs (spelling ts ++ (t ∷ [])) × Stays (spelling ts) t gs n
 
 not-nil : {t : Token} {us : List Token} → [] ≡ t ∷ us → ⊥
@@ -63,10 +71,13 @@ module _ (g : Goal) (gs hs : List Goal) (t : Token) (s : Span) (f : Feed) (there
   halted-on ts u _ (by-token t′ f′ h) = by-token t′ f′ (λ r x. h r (there _ (onward g gs t _ x)))
   halted-on ts u _ (by-end b e h) = by-end b e (λ x. h (there _ (onward g gs t _ x)))
 
+  passes-on : (n m : ℕ) (us : List Token) → ((k : Feed) (sp : Span) → run (token t sp k) (g ∷ gs) n ≡ run k hs m) → Passes us hs m → Passes (t ∷ us) (g ∷ gs) n
+  passes-on n m us goes h = (h .0, h .1, λ sp i r k. goes _ (sp i) ∙ h .2 sp (suc i) r k ∙ ap (λ j. run (fed sp j r k) (h .0) (h .1)) (omega arith))
+
   told-on : (n m : ℕ) (o : Outcome) → ((k : Feed) (sp : Span) → run (token t sp k) (g ∷ gs) n ≡ run k hs m) → Told f hs m o → Told (token t s f) (g ∷ gs) n o
   told-on n m (whole l) goes h = (whole-on (said f) (h .0), h .1)
-  told-on n m (refused (NoToken u)) goes h = ((t, s) ∷ h .0, ap (token t s) (h .1), (h .2 .0, whole-on _ (h .2 .1)))
-  told-on n m (refused (NoSolid u)) goes h = ((t, s) ∷ h .0, h .1, ap (token t s) (h .2), (h .3 .0, whole-on _ (h .3 .1)), halted-on (spelling (h .0)) u (h .1) (h .4))
+  told-on n m (refused (NoToken u)) goes h = ((t, s) ∷ h .0, ap (token t s) (h .1), (h .2 .0, whole-on _ (h .2 .1)), passes-on n m _ goes (h .3))
+  told-on n m (refused (NoSolid u)) goes h = ((t, s) ∷ h .0, h .1, ap (token t s) (h .2), (h .3 .0, whole-on _ (h .3 .1)), halted-on (spelling (h .0)) u (h .1) (h .4), passes-on n m _ goes (h .5))
   told-on n m (refused (TooLarge u)) goes h = ((t, s) ∷ h .0, h .1, h .2, ap (token t s) (h .3), (h .4 .0, whole-on _ (h .4 .1)), (λ sp i r k. goes _ (sp i) ∙ h .5 sp (suc i) r k ∙ ap (λ j. refused (TooLarge (sp j))) (omega arith)))
 
 -- a node that does not fit
@@ -82,7 +93,7 @@ over g gs hs d n t s f p x =
     )
 
 by-move : (m : Move) (g : Goal) (gs : List Goal) (t : Token) (s : Span) (f : Feed) (n : ℕ) → move g gs t ≡ m → ((hs : List Goal) (l : ℕ) → Told f hs l (run f hs l)) → Told (token t s f) (g ∷ gs) n (moved m (run f) n s)
-by-move stuck g gs t s f n p ih = ([], token t s f, refl, met (g ∷ gs), by-token t f (λ r x. subst (λ m. After m r) p (onward g gs t r x)))
+by-move stuck g gs t s f n p ih = ([], token t s f, refl, met (g ∷ gs), by-token t f (λ r x. subst (λ m. After m r) p (onward g gs t r x)), passes-none (g ∷ gs) n)
 by-move (on hs) g gs t s f n p ih =
     told-on g gs hs t s f (λ us a. subst (λ m. After m us) p a) (λ us a. subst (λ m. After m us) (sym p) a) n n (run f hs n) (λ k sp. ap (λ m. moved m (run k) n sp) p) (ih hs n)
 by-move (node d hs) g gs t s f n p ih =
@@ -91,10 +102,10 @@ by-move (node d hs) g gs t s f n p ih =
     (λ x. over g gs hs d n t s f p x)
 
 pub told : (f : Feed) (gs : List Goal) (n : ℕ) → Told f gs n (run f gs n)
-told (bad s) gs n = ([], refl, met gs)
+told (bad s) gs n = ([], refl, met gs, passes-none gs n)
 told (end b) [] n = (refl, tt)
-told (end b) (g ∷ gs) n = ([], end b, refl, met (g ∷ gs), by-end b refl (λ h. not-nil (forth g gs [] h .2)))
-told (token t s f) [] n = ([], token t s f, refl, ([], refl), by-token t f (λ r h. not-nil (sym h)))
+told (end b) (g ∷ gs) n = ([], end b, refl, met (g ∷ gs), by-end b refl (λ h. not-nil (forth g gs [] h .2)), passes-none (g ∷ gs) n)
+told (token t s f) [] n = ([], token t s f, refl, ([], refl), by-token t f (λ r h. not-nil (sym h)), passes-none [] n)
 told (token t s f) (g ∷ gs) n = by-move (move g gs t) g gs t s f n refl (λ hs l. told f hs l)
 
 -- what is to come of a whole text
@@ -111,7 +122,7 @@ pub goes-on : (us : List Token) → Begun start us → GoesOn us
 goes-on us b = let o = one-solid (us ++ b .0) (b .1) in (o .0, o .1, b .0, sym (o .2))
 
 -- the same of a whole text
-halt : (ts : List Token) (s : Span) (f : Feed) → Halted start ts s f → Halt ts s f
+pub halt : (ts : List Token) (s : Span) (f : Feed) → Halted start ts s f → Halt ts s f
 halt ts s _ (by-token t f h) = at-token t f (λ g. h (g .2) (as-goal (g .0) _ (g .1) (g .3 ∙ append-assoc ts (t ∷ []) (g .2))))
 halt ts s _ (by-end b e h) = at-end b e (λ x z p. h (as-goal x ts z p))
 
@@ -123,9 +134,3 @@ whole-reading f n p =
     let h = judged-told f (whole n) p in
     let o = one-solid (said f) (h .0) in
     (o .0, o .1, o .2, h .1)
-
-pub first-stop : First-stop
-first-stop f s p = let h = judged-told f (refused (NoSolid s)) p in (h .0, h .1, h .2, goes-on _ (h .3), halt (spelling (h .0)) s (h .1) (h .4))
-
-pub first-bad : First-bad
-first-bad f s p = let h = judged-told f (refused (NoToken s)) p in (h .0, h .1, goes-on _ (h .2))

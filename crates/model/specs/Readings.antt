@@ -42,14 +42,6 @@ pub data Halt (ts : List Token) (s : Span) : Feed → Type 0 where
   -- the text ends at b, and ts are no program's tokens
   at-end : (b : ℕ) → s ≡ record { at = b; len = 0 } → ((e : Solid) → textual e ≡ true → tokens e ≡ ts → ⊥) → Halt ts s (end b)
 
--- `NoSolid` stands at the first token, or the end, with which no program goes on
-abbrev pub First-stop : Type 0
-First-stop = (f : Feed) (s : Span) → judged f ≡ refused (NoSolid s) → (ts : List (Token × Span)) × (f′ : Feed) × (f ≡ before ts f′) × GoesOn (spelling ts) × Halt (spelling ts) s f′
-
--- `NoToken` stands at the first run that is no token, and some program goes on up to there
-abbrev pub First-bad : Type 0
-First-bad = (f : Feed) (s : Span) → judged f ≡ refused (NoToken s) → (ts : List (Token × Span)) × (f ≡ before ts (bad s)) × GoesOn (spelling ts)
-
 -- for each node in reading order: the place of its first token, from i on, and the levels left, from d on
 unfoldable mutual
   pub firsts : {s : Sort} → Expr s → ℕ → ℕ → List (ℕ × ℕ)
@@ -63,6 +55,18 @@ unfoldable mutual
 abbrev pub first-over : ℕ → List (ℕ × ℕ) → Option ℕ
 first-over n [] = O.none
 first-over n (p ∷ ps) = cond (room (p .1) n) (first-over (n + 1) ps) (some (p .0))
+
+-- no node that begins among these tokens passes a limit, whatever program goes on from them
+abbrev pub Room-for : List Token → Type 0
+Room-for ts = (e : Solid) (r : List Token) → textual e ≡ true → tokens e ≡ ts ++ r → (j : ℕ) → first-over 0 (firsts e 0 most-levels) ≡ some j → length ts ≤ j
+
+-- `NoSolid` stands at the first token, or the end, with which no program goes on, unless a limit was passed before
+abbrev pub First-stop : Type 0
+First-stop = (f : Feed) (s : Span) → judged f ≡ refused (NoSolid s) → (ts : List (Token × Span)) × (f′ : Feed) × (f ≡ before ts f′) × GoesOn (spelling ts) × Room-for (spelling ts) × Halt (spelling ts) s f′
+
+-- `NoToken` stands at the first run that is no token, and up to there some program goes on, within the limits
+abbrev pub First-bad : Type 0
+First-bad = (f : Feed) (s : Span) → judged f ≡ refused (NoToken s) → (ts : List (Token × Span)) × (f ≡ before ts (bad s)) × GoesOn (spelling ts) × Room-for (spelling ts)
 
 -- the text of each program within the limits is read
 abbrev pub Reads-back : Type 0

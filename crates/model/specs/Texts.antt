@@ -16,7 +16,7 @@ use Rattle.model.specs.Tokens.{Token, tokens}
 use Rattle.model.specs.Feed.{Feed, token, bad, said, Clean}
 use Rattle.model.specs.Lexing.{feed}
 use Rattle.model.specs.Grammar.{Outcome, refused, judged}
-use Rattle.model.specs.Readings.{before, spelling, GoesOn, Halt, firsts, first-over}
+use Rattle.model.specs.Readings.{before, spelling, GoesOn, Room-for, Halt, firsts, first-over}
 
 -- the first byte past it
 abbrev pub past-end : Span
@@ -35,20 +35,22 @@ pub record Accepts (text : List ℕ) (e : Solid) : Type 0 where
   pub small : size e ≤ most-nodes
   pub shallow : depth e ≤ most-levels
 
--- a run or byte that is no token comes first: up to it some program goes on
+-- a run or byte that is no token comes first: up to it some program goes on, and no limit is passed
 pub record Bad-token (text : List ℕ) (s : Span) : Type 0 where
   pub short : length text ≤ most-bytes
   pub passed : List (Token × Span)
   pub stands : feed-of text ≡ before passed (bad s)
   pub goes-on : GoesOn (spelling passed)
+  pub room : Room-for (spelling passed)
 
--- a token, or the end, comes first with which no program goes on: up to it some program does
+-- a token, or the end, comes first with which no program goes on: up to it some program does, and no limit is passed
 pub record No-program (text : List ℕ) (s : Span) : Type 0 where
   pub short : length text ≤ most-bytes
   pub passed : List (Token × Span)
   pub rest : Feed
   pub stands : feed-of text ≡ before passed rest
   pub goes-on : GoesOn (spelling passed)
+  pub room : Room-for (spelling passed)
   pub halts : Halt (spelling passed) s rest
 
 -- a node begins that is the 641st or at depth 257, the first such in every program that goes on from there
