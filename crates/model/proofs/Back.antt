@@ -21,7 +21,7 @@ use Rattle.model.specs.Tokens.{Token, opening, closing, tokens, row}
 use Rattle.model.specs.Tokens as T
 use Rattle.model.specs.Feed.{Feed, token, bad, end, said, Clean}
 use Rattle.model.specs.Grammar.{Goal, element, elements, mark, run, room, Outcome, whole, refused, judged}
-use Rattle.model.specs.Readings.{spelling, firsts, firsts-in, first-over, Reads-back, Within}
+use Rattle.model.specs.Readings.{alone, firsts, firsts-in, first-over, Reads-back, Within}
 use Rattle.model.proofs.Once.{clash, fewer, one-reading}
 use Rattle.model.proofs.Derive.{wanted, first-textual, parts-textual, no-number}
 use Rattle.model.proofs.Stops.{fed, start, whole-reading}

@@ -14,7 +14,7 @@ use Rattle.model.specs.Syntax.{size}
 use Rattle.model.specs.Tokens.{Token, tokens}
 use Rattle.model.specs.Feed.{end}
 use Rattle.model.specs.Grammar.{Goal, Move, stuck, on, node, move, moved, run, room, Outcome, whole, refused}
-use Rattle.model.specs.Readings.{spelling, firsts, first-over, Room-for, First-stop, First-bad, First-over}
+use Rattle.model.specs.Readings.{alone, firsts, first-over, Room-for, First-stop, First-bad, First-over}
 use Rattle.model.proofs.Once.{clash}
 use Rattle.model.proofs.Back.{ended, exact}
 use Rattle.model.proofs.Stops.{fed, start, Passes, goes-on, halt, judged-told}
@@ -31,19 +31,20 @@ ended-over (some k) n j q = let p : place k ≡ place j = cc in ap (λ s. some (
 pub over-first : First-over
 over-first f s p =
     let h = judged-told f (refused (TooLarge s)) p in
-    let us = spelling (h .0) in (
-      h .0,
-      h .1,
-      h .2,
-      h .3,
-      goes-on _ (h .4),
-      λ e r x q.
+    let us = alone (h .0) in
+    record {
+      passed = h .0;
+      first = h .1;
+      rest = h .2;
+      stands = h .3;
+      goes-on = goes-on _ (h .4);
+      over = λ e r x q.
           ended-over (first-over 0 (firsts e 0 most-levels)) (0 + size e) (0 + length us)
           (sym (exact e x place 0 most-levels 0 (end 0) [])
           ∙ ap (λ vs. run (fed place 0 vs (end 0)) start 0) (q ∙ append-assoc us (h .1 ∷ []) r)
           ∙ h .5 place 0 r (end 0))
-          ∙ ap some (omega (arith, length-map (h .0) (λ t. t .0))),
-    )
+          ∙ ap some (omega (arith, length-map (h .0) (λ t. t .0)));
+    }
 
 late-by : (m : Move) (go : List Goal → ℕ → Outcome) (n k : ℕ) (s : Span) → ((hs : List Goal) (l : ℕ) → go hs l ≡ refused (TooLarge s) → k ≤ s .at) → moved m go n (place k) ≡ refused (TooLarge s) → k ≤ s .at
 unfolding place
@@ -70,7 +71,11 @@ passes-room us p e r x q j o =
     omega arith
 
 pub first-stop : First-stop
-first-stop f s p = let h = judged-told f (refused (NoSolid s)) p in (h .0, h .1, h .2, goes-on _ (h .3), passes-room _ (h .5), halt (spelling (h .0)) s (h .1) (h .4))
+first-stop f s p =
+    let h = judged-told f (refused (NoSolid s)) p in
+    record { passed = h .0; rest = h .1; stands = h .2; goes-on = goes-on _ (h .3); room = passes-room _ (h .5); halts = halt (alone (h .0)) s (h .1) (h .4) }
 
 pub first-bad : First-bad
-first-bad f s p = let h = judged-told f (refused (NoToken s)) p in (h .0, h .1, goes-on _ (h .2), passes-room _ (h .3))
+first-bad f s p =
+    let h = judged-told f (refused (NoToken s)) p in
+    record { passed = h .0; stands = h .1; goes-on = goes-on _ (h .2); room = passes-room _ (h .3) }

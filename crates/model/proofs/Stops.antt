@@ -13,7 +13,7 @@ use Rattle.model.specs.Syntax.{solid, Solid, textual}
 use Rattle.model.specs.Tokens.{Token, tokens}
 use Rattle.model.specs.Feed.{Feed, token, bad, end, said, Clean}
 use Rattle.model.specs.Grammar.{Goal, element, Move, stuck, on, node, move, moved, room, run, Outcome, whole, refused, judged}
-use Rattle.model.specs.Readings.{before, spelling, GoesOn, Halt, at-token, at-end, Whole-reading}
+use Rattle.model.specs.Readings.{before, alone, GoesOn, Halt, at-token, at-end, Whole-reading}
 use Rattle.model.proofs.Once.{clash}
 use Rattle.model.proofs.Derive.{GenAll, After, forth}
 use Rattle.model.proofs.Rejoin.{back, met}
@@ -46,9 +46,9 @@ passes-none gs n = (gs, n, λ sp i r f. ap (λ j. run (fed sp j r f) gs n) (omeg
 -- what an outcome, with n nodes so far, says of the feed and the goals
 abbrev pub Told : Feed → List Goal → ℕ → Outcome → Type 0
 Told f gs n (whole m) = GenAll gs (said f) × Clean f
-Told f gs n (refused (NoToken s)) = (ts : List (Token × Span)) × (f ≡ before ts (bad s)) × Begun gs (spelling ts) × Passes (spelling ts) gs n
-Told f gs n (refused (NoSolid s)) = (ts : List (Token × Span)) × (f′ : Feed) × (f ≡ before ts f′) × Begun gs (spelling ts) × Halted gs (spelling ts) s f′ × Passes (spelling ts) gs n
-Told f gs n (refused (TooLarge s)) = (ts : List (Token × Span)) × (t : Token) × (f′ : Feed) × (f ≡ before ts (token t s f′)) × Begun gs (spelling ts ++ (t ∷ [])) × Stays (spelling ts) t gs n
+Told f gs n (refused (NoToken s)) = (ts : List (Token × Span)) × (f ≡ before ts (bad s)) × Begun gs (alone ts) × Passes (alone ts) gs n
+Told f gs n (refused (NoSolid s)) = (ts : List (Token × Span)) × (f′ : Feed) × (f ≡ before ts f′) × Begun gs (alone ts) × Halted gs (alone ts) s f′ × Passes (alone ts) gs n
+Told f gs n (refused (TooLarge s)) = (ts : List (Token × Span)) × (t : Token) × (f′ : Feed) × (f ≡ before ts (token t s f′)) × Begun gs (alone ts ++ (t ∷ [])) × Stays (alone ts) t gs n
 
 not-nil : {t : Token} {us : List Token} → [] ≡ t ∷ us → ⊥
 not-nil e = clash (cc)
@@ -77,7 +77,7 @@ module _ (g : Goal) (gs hs : List Goal) (t : Token) (s : Span) (f : Feed) (there
   told-on : (n m : ℕ) (o : Outcome) → ((k : Feed) (sp : Span) → run (token t sp k) (g ∷ gs) n ≡ run k hs m) → Told f hs m o → Told (token t s f) (g ∷ gs) n o
   told-on n m (whole l) goes h = (whole-on (said f) (h .0), h .1)
   told-on n m (refused (NoToken u)) goes h = ((t, s) ∷ h .0, ap (token t s) (h .1), (h .2 .0, whole-on _ (h .2 .1)), passes-on n m _ goes (h .3))
-  told-on n m (refused (NoSolid u)) goes h = ((t, s) ∷ h .0, h .1, ap (token t s) (h .2), (h .3 .0, whole-on _ (h .3 .1)), halted-on (spelling (h .0)) u (h .1) (h .4), passes-on n m _ goes (h .5))
+  told-on n m (refused (NoSolid u)) goes h = ((t, s) ∷ h .0, h .1, ap (token t s) (h .2), (h .3 .0, whole-on _ (h .3 .1)), halted-on (alone (h .0)) u (h .1) (h .4), passes-on n m _ goes (h .5))
   told-on n m (refused (TooLarge u)) goes h = ((t, s) ∷ h .0, h .1, h .2, ap (token t s) (h .3), (h .4 .0, whole-on _ (h .4 .1)), (λ sp i r k. goes _ (sp i) ∙ h .5 sp (suc i) r k ∙ ap (λ j. refused (TooLarge (sp j))) (omega arith)))
 
 -- a node that does not fit

@@ -17,7 +17,7 @@ use Rattle.model.specs.Syntax.{Solid, textual, size, depth}
 use Rattle.model.specs.Tokens.{tokens}
 use Rattle.model.specs.Feed.{said}
 use Rattle.model.specs.Grammar.{Outcome, whole, refused, judged}
-use Rattle.model.specs.Texts.{past-end, feed-of, Accepts, Bad-token, No-program, Past-limit, Refuses, outcome, Both-ways}
+use Rattle.model.specs.Texts.{past-end, feed-of, Accepts, Refuses, outcome, Both-ways}
 use Rattle.model.proofs.Once.{one-reading}
 use Rattle.model.proofs.Stops.{whole-reading}
 use Rattle.model.proofs.Back.{reads-back, within}
@@ -44,9 +44,9 @@ refuses text f = by-length text (λ o. o ≡ refused f → Refuses text f) (λ l
     too-long (TooLarge s) long q = inl (long, cc)
 
     stopped : (f : Refusal) → length text ≤ most-bytes → judged (feed-of text) ≡ refused f → Refuses text f
-    stopped (NoToken s) short q = let h = first-bad (feed-of text) s q in record { short = short; passed = h .0; stands = h .1; goes-on = h .2; room = h .3 }
-    stopped (NoSolid s) short q = let h = first-stop (feed-of text) s q in record { short = short; passed = h .0; rest = h .1; stands = h .2; goes-on = h .3; room = h .4; halts = h .5 }
-    stopped (TooLarge s) short q = let h = over-first (feed-of text) s q in inr (record { short = short; passed = h .0; first = h .1; rest = h .2; stands = h .3; goes-on = h .4; over = h .5 })
+    stopped (NoToken s) short q = (short, first-bad (feed-of text) s q)
+    stopped (NoSolid s) short q = (short, first-stop (feed-of text) s q)
+    stopped (TooLarge s) short q = inr (short, over-first (feed-of text) s q)
 
 -- a text with the outcome of a program, which has the program's tokens, says it
 pub accepts : (text : List ℕ) (n : ℕ) (e : Solid) → outcome text ≡ whole n → said (feed-of text) ≡ tokens e → Accepts text e

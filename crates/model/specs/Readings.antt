@@ -28,8 +28,8 @@ before [] f = f
 before (p ∷ ps) f = token (p .0) (p .1) (before ps f)
 
 -- those tokens alone
-abbrev pub spelling : List (Token × Span) → List Token
-spelling ts = map (λ p. p .0) ts
+abbrev pub alone : List (Token × Span) → List Token
+alone ts = map (λ p. p .0) ts
 
 -- some program of a text begins with these tokens
 abbrev pub GoesOn : List Token → Type 0
@@ -60,13 +60,40 @@ first-over n (p ∷ ps) = cond (room (p .1) n) (first-over (n + 1) ps) (some (p 
 abbrev pub Room-for : List Token → Type 0
 Room-for ts = (e : Solid) (r : List Token) → textual e ≡ true → tokens e ≡ ts ++ r → (j : ℕ) → first-over 0 (firsts e 0 most-levels) ≡ some j → length ts ≤ j
 
--- `NoSolid` stands at the first token, or the end, with which no program goes on, unless a limit was passed before
-abbrev pub First-stop : Type 0
-First-stop = (f : Feed) (s : Span) → judged f ≡ refused (NoSolid s) → (ts : List (Token × Span)) × (f′ : Feed) × (f ≡ before ts f′) × GoesOn (spelling ts) × Room-for (spelling ts) × Halt (spelling ts) s f′
+-- a run or byte that is no token comes first: up to it some program goes on, and no limit is passed
+pub record Bad-token (f : Feed) (s : Span) : Type 0 where
+  pub passed : List (Token × Span)
+  pub stands : f ≡ before passed (bad s)
+  pub goes-on : GoesOn (alone passed)
+  pub room : Room-for (alone passed)
 
--- `NoToken` stands at the first run that is no token, and up to there some program goes on, within the limits
+-- a token, or the end, comes first with which no program goes on: up to it some program does, and no limit is passed
+pub record No-program (f : Feed) (s : Span) : Type 0 where
+  pub passed : List (Token × Span)
+  pub rest : Feed
+  pub stands : f ≡ before passed rest
+  pub goes-on : GoesOn (alone passed)
+  pub room : Room-for (alone passed)
+  pub halts : Halt (alone passed) s rest
+
+-- a node begins that is the 641st or at depth 257, the first such in every program that goes on from there
+pub record Past-limit (f : Feed) (s : Span) : Type 0 where
+  pub passed : List (Token × Span)
+  pub first : Token
+  pub rest : Feed
+  pub stands : f ≡ before passed (token first s rest)
+  pub goes-on : GoesOn (alone passed ++ (first ∷ []))
+  pub over : (e : Solid) (r : List Token) → textual e ≡ true → tokens e ≡ (alone passed ++ (first ∷ [])) ++ r → first-over 0 (firsts e 0 most-levels) ≡ some (length passed)
+
+-- each refusal stands where it should
 abbrev pub First-bad : Type 0
-First-bad = (f : Feed) (s : Span) → judged f ≡ refused (NoToken s) → (ts : List (Token × Span)) × (f ≡ before ts (bad s)) × GoesOn (spelling ts) × Room-for (spelling ts)
+First-bad = (f : Feed) (s : Span) → judged f ≡ refused (NoToken s) → Bad-token f s
+
+abbrev pub First-stop : Type 0
+First-stop = (f : Feed) (s : Span) → judged f ≡ refused (NoSolid s) → No-program f s
+
+abbrev pub First-over : Type 0
+First-over = (f : Feed) (s : Span) → judged f ≡ refused (TooLarge s) → Past-limit f s
 
 -- the text of each program within the limits is read
 abbrev pub Reads-back : Type 0
@@ -75,7 +102,3 @@ Reads-back = (e : Solid) (f : Feed) → textual e ≡ true → size e ≤ most-n
 -- a program that is read is within the limits, and its nodes are counted
 abbrev pub Within : Type 0
 Within = (f : Feed) (n : ℕ) (e : Solid) → judged f ≡ whole n → said f ≡ tokens e → (n ≡ size e) × (size e ≤ most-nodes) × (depth e ≤ most-levels)
-
--- `TooLarge` stands where a node begins that is the first past a limit, in every program that begins so
-abbrev pub First-over : Type 0
-First-over = (f : Feed) (s : Span) → judged f ≡ refused (TooLarge s) → (ts : List (Token × Span)) × (t : Token) × (f′ : Feed) × (f ≡ before ts (token t s f′)) × GoesOn (spelling ts ++ (t ∷ [])) × ((e : Solid) (r : List Token) → textual e ≡ true → tokens e ≡ (spelling ts ++ (t ∷ [])) ++ r → first-over 0 (firsts e 0 most-levels) ≡ some (length ts))

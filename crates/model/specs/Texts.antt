@@ -1,9 +1,8 @@
 -- What a text is: the program that it says, or why it is refused. Assumes nothing.
 use mathlib.Core.Path.{_≡_}
 use mathlib.Core.Bool.{true, cond}
-use mathlib.Core.List.{List, [], _∷_, _++_}
+use mathlib.Core.List.{List}
 use mathlib.Core.Logic.{_⊎_}
-use mathlib.Core.Option.{some}
 use Prim.Native.Nat.{ℕ, _≤_, _<_}
 use lib.Dec.{ltb}
 use lib.ListN.{length}
@@ -12,13 +11,13 @@ use Rattle.model.specs.declared.refusal.Span.{Span}
 use Rattle.model.specs.declared.refusal.Refusal.{Refusal}
 use Rattle.model.specs.declared.refusal.Refusal.the-variants.{NoToken, NoSolid, TooLarge}
 use Rattle.model.specs.Syntax.{Solid, textual, size, depth}
-use Rattle.model.specs.Tokens.{Token, tokens}
-use Rattle.model.specs.Feed.{Feed, token, bad, said, Clean}
+use Rattle.model.specs.Tokens.{tokens}
+use Rattle.model.specs.Feed.{Feed, said, Clean}
 use Rattle.model.specs.Lexing.{feed}
 use Rattle.model.specs.Grammar.{Outcome, refused, judged}
-use Rattle.model.specs.Readings.{before, spelling, GoesOn, Room-for, Halt, firsts, first-over}
+use Rattle.model.specs.Readings.{Bad-token, No-program, Past-limit}
 
--- the first byte past it
+-- the first byte past the longest text
 abbrev pub past-end : Span
 past-end = record { at = most-bytes; len = 0 }
 
@@ -35,39 +34,11 @@ pub record Accepts (text : List ℕ) (e : Solid) : Type 0 where
   pub small : size e ≤ most-nodes
   pub shallow : depth e ≤ most-levels
 
--- a run or byte that is no token comes first: up to it some program goes on, and no limit is passed
-pub record Bad-token (text : List ℕ) (s : Span) : Type 0 where
-  pub short : length text ≤ most-bytes
-  pub passed : List (Token × Span)
-  pub stands : feed-of text ≡ before passed (bad s)
-  pub goes-on : GoesOn (spelling passed)
-  pub room : Room-for (spelling passed)
-
--- a token, or the end, comes first with which no program goes on: up to it some program does, and no limit is passed
-pub record No-program (text : List ℕ) (s : Span) : Type 0 where
-  pub short : length text ≤ most-bytes
-  pub passed : List (Token × Span)
-  pub rest : Feed
-  pub stands : feed-of text ≡ before passed rest
-  pub goes-on : GoesOn (spelling passed)
-  pub room : Room-for (spelling passed)
-  pub halts : Halt (spelling passed) s rest
-
--- a node begins that is the 641st or at depth 257, the first such in every program that goes on from there
-pub record Past-limit (text : List ℕ) (s : Span) : Type 0 where
-  pub short : length text ≤ most-bytes
-  pub passed : List (Token × Span)
-  pub first : Token
-  pub rest : Feed
-  pub stands : feed-of text ≡ before passed (token first s rest)
-  pub goes-on : GoesOn (spelling passed ++ (first ∷ []))
-  pub over : (e : Solid) (r : List Token) → textual e ≡ true → tokens e ≡ (spelling passed ++ (first ∷ [])) ++ r → first-over 0 (firsts e 0 most-levels) ≡ some (length passed)
-
--- why a text is refused
+-- why a text is refused: its length comes before its tokens
 abbrev pub Refuses : List ℕ → Refusal → Type 0
-Refuses text (NoToken s) = Bad-token text s
-Refuses text (NoSolid s) = No-program text s
-Refuses text (TooLarge s) = ((most-bytes < length text) × (s ≡ past-end)) ⊎ Past-limit text s
+Refuses text (NoToken s) = (length text ≤ most-bytes) × Bad-token (feed-of text) s
+Refuses text (NoSolid s) = (length text ≤ most-bytes) × No-program (feed-of text) s
+Refuses text (TooLarge s) = ((most-bytes < length text) × (s ≡ past-end)) ⊎ ((length text ≤ most-bytes) × Past-limit (feed-of text) s)
 
 -- the one outcome of a text: its length is judged before its tokens
 unfoldable pub outcome : List ℕ → Outcome
