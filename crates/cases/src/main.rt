@@ -3,11 +3,10 @@ mod make;
 mod tell;
 
 use make::text_of_line;
+use model::MOST_BYTES;
 use model::Table;
 use std::error::AnyError;
 use tell::tell;
-
-const MOST_BYTES: usize = 65_536;
 
 fn run(rt: &LibcRuntime) -> Result<(), AnyError> {
     let heap = rt.alloc();

@@ -3,13 +3,11 @@ ghost use mathlib.Core.Path.{_≡_};
 ghost use Rattle.std.specs.Vec.{made};
 ghost use Rattle.model.specs.Syntax.{size, Empty};
 ghost use Rattle.model.specs.Tables.{held};
+use super::limits::MOST_NODES;
 use super::node::Node;
 use super::table::Table;
 use std::alloc::AllocError;
 use std::alloc::Global;
-
-/// No program has more nodes.
-const MOST_NODES: usize = 640;
 
 impl Table {
     /// A table that holds `Empty`.

@@ -2,6 +2,7 @@
 mod depth;
 mod extent;
 mod held;
+mod limits;
 mod node;
 mod refusal;
 mod report;
@@ -9,6 +10,9 @@ mod same;
 mod table;
 mod word;
 
+pub use limits::MOST_BYTES;
+pub use limits::MOST_LEVELS;
+pub use limits::MOST_NODES;
 pub use node::Linear;
 pub use node::Node;
 pub use node::Operator;

@@ -14,6 +14,7 @@ use failure::FailureFromAlloc;
 use failure::FailureFromIo;
 use failure::FailureFromMisuse;
 use failure::explain;
+use model::MOST_BYTES;
 use model::Table;
 use std::io::Write;
 
@@ -23,7 +24,7 @@ fn show(rt: &LibcRuntime, name: String) -> Result<(), Failure> {
         Err(error) => return Err(Failure::Unreadable(name, error)),
     };
     let mut table = Table::new(rt.alloc())?;
-    let mut text = vec![in rt.alloc(); 0u8; part::MOST_BYTES]?;
+    let mut text = vec![in rt.alloc(); 0u8; MOST_BYTES]?;
     match part::respell(bytes.as_slice(), &mut table, text.as_mut_slice()) {
         Ok(length) => text.truncate(length),
         Err(refusal) => return Err(Failure::Refused(name, bytes, refusal)),

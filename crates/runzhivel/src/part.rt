@@ -6,9 +6,6 @@ ghost use Rattle.runzhivel.specs.Respelling.{Respelled};
 use model::Refusal;
 use model::Table;
 
-/// No text that is read has a longer spelling.
-pub const MOST_BYTES: usize = 65_536;
-
 /// Reads a text into the table, writes the one spelling of its program at the buffer's start, and
 /// answers how long that is.
 pub fn respell(text: &[u8], table: &mut Table, out: &mut [u8]) -> Result<usize, Refusal>

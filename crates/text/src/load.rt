@@ -7,12 +7,10 @@ ghost use Rattle.model.specs.Texts.{outcome};
 ghost use Rattle.text.specs.Reading.{after};
 ghost use Rattle.text.specs.Loading.{Reading};
 use super::reader::read_program;
+use model::MOST_BYTES;
 use model::Refusal;
 use model::Span;
 use model::Table;
-
-/// No text is longer.
-const MOST_BYTES: usize = 65_536;
 
 /// Reads a text: the table then holds its program. A text that is refused leaves the table as it was.
 pub fn read(text: &[u8], table: &mut Table) -> Result<(), Refusal>

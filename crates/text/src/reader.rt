@@ -24,6 +24,8 @@ use super::form::list_form;
 use super::form::solid_form;
 use super::token::Lexer;
 use super::token::Token;
+use model::MOST_LEVELS;
+use model::MOST_NODES;
 use model::Mark;
 use model::Node;
 use model::Refusal;
@@ -40,7 +42,7 @@ fn is_close(token: Token<'_>) -> bool
 fn room_for(levels: u16, count: usize, span: Span) -> Result<(), Refusal>
     ensures { λ r. ⌜ elim r [ Ok _ ↦ room levels count ≡ true | Err f ↦ (room levels count ≡ false) × (f ≡ Refusal.TooLarge span) ] ⌝ }
 {
-    if levels == 0 || count >= 640 {
+    if levels == 0 || count >= MOST_NODES {
         return Err(Refusal::TooLarge(span));
     }
     Ok(())
@@ -330,7 +332,7 @@ pub(crate) fn read_program(text: &[u8], out: &mut Vec<Node>) -> Result<(), Refus
     ensures goes { λ r. ⌜ judged (feed (now (text .entry)) 0) ≡ after r (goal.whole (vec-len (now (out .exit)))) ⌝ }
 {
     let mut src = Lexer { text, at: 0 };
-    read_element(&mut src, Element::Solid, 256, out)?;
+    read_element(&mut src, Element::Solid, MOST_LEVELS, out)?;
     if let Some(token) = src.next()? {
         return Err(Refusal::NoSolid(token.span()));
     }
