@@ -2,7 +2,9 @@
 use mathlib.Core.Path.{_≡_}
 use mathlib.Core.List.{List, [], _∷_, _++_}
 use mathlib.Core.Bool.{Bool, true, false}
-use Prim.Native.Nat.{ℕ}
+use Prim.Native.Nat.{ℕ, _<_, _≤_}
+use lib.ListN.{length}
+use Rattle.std.specs.Vec.{made}
 use Rattle.model.specs.declared.word.Mark.the-variants.{Open, Close, Left, Right, Comma}
 use Rattle.std.specs.declared.result.Result.{Result}
 use Rattle.std.specs.declared.result.Result.the-variants.{Ok, Err}
@@ -21,6 +23,22 @@ use Rattle.text.specs.Lexer.{ahead, token-of, span-of}
 abbrev pub after : {X : Type 0} → Result X Refusal → Outcome → Outcome
 after (Ok u) v = v
 after (Err f) v = refused f
+
+-- the same text is read on
+abbrev pub Same : Lexer → Lexer → Type 0
+Same a b = b .text .now ≡ a .text .now
+
+-- bytes were read, and none past the text's end
+abbrev pub Ahead : {X : Type 0} → Lexer → Result X Refusal → Lexer → Type 0
+Ahead a r b = made r (λ _. (a .at < b .at) × (b .at ≤ length (b .text .now)))
+
+-- these tokens were taken
+abbrev pub Took : {X : Type 0} → (X → List Token) → Lexer → Result X Refusal → Lexer → Type 0
+Took says a r b = made r (λ v. said (ahead a) ≡ says v ++ said (ahead b))
+
+-- what these goals stand for was taken, or the text stops there
+abbrev pub Goes : {X : Type 0} → (List Goal → List Goal) → Lexer → Result X Refusal → Lexer → Type 0
+Goes goals a r b = (gs : List Goal) (n : ℕ) → run (ahead a) (goals gs) n ≡ after r (run (ahead b) gs n)
 
 -- the outcome where the token t is read to the first goal
 abbrev pub judge : code.Token → Lexer → Goal → List Goal → ℕ → Outcome

@@ -12,7 +12,7 @@ ghost use Rattle.model.specs.Feed.{said};
 ghost use Rattle.model.specs.Grammar.{Goal, run};
 ghost use Rattle.model.specs.Grammar as goal;
 ghost use Rattle.text.specs.Lexer.{ahead};
-ghost use Rattle.text.specs.Reading.{Takes, after};
+ghost use Rattle.text.specs.Reading.{Ahead, Goes, Same, Takes, Took};
 use super::form::placement_of;
 use super::token::Lexer;
 use super::token::Token;
@@ -28,8 +28,8 @@ use model::Word;
 impl<'a> Lexer<'a> {
     // The next token; a text that ends here is refused.
     pub(crate) fn take(&mut self) -> Result<Token<'a>, Refusal>
-        ensures same { λ r. ⌜ now (now (self .exit) .text) ≡ now (now (self .entry) .text) ⌝ }
-        ensures ahead { λ r. ⌜ made r (λ _. (now (self .entry) .at < now (self .exit) .at) × (now (self .exit) .at ≤ length (now (now (self .exit) .text)))) ⌝ }
+        ensures same { λ r. ⌜ Same (now (self .entry)) (now (self .exit)) ⌝ }
+        ensures ahead { λ r. ⌜ Ahead (now (self .entry)) r (now (self .exit)) ⌝ }
         ensures takes { λ r. ⌜ Takes (now (self .entry)) r (now (self .exit)) ⌝ }
     {
         let Some(token) = self.next()? else {
@@ -42,10 +42,10 @@ impl<'a> Lexer<'a> {
     }
 
     pub(crate) fn mark(&mut self, wanted: Mark) -> Result<(), Refusal>
-        ensures same { λ r. ⌜ now (now (self .exit) .text) ≡ now (now (self .entry) .text) ⌝ }
-        ensures ahead { λ r. ⌜ made r (λ _. (now (self .entry) .at < now (self .exit) .at) × (now (self .exit) .at ≤ length (now (now (self .exit) .text)))) ⌝ }
-        ensures took { λ r. ⌜ made r (λ _. said (ahead (now (self .entry))) ≡ tokens.mark wanted ∷ said (ahead (now (self .exit)))) ⌝ }
-        ensures goes { λ r. ⌜ ((gs : List Goal) (n : ℕ) → run (ahead (now (self .entry))) (goal.mark wanted ∷ gs) n ≡ after r (run (ahead (now (self .exit))) gs n)) ⌝ }
+        ensures same { λ r. ⌜ Same (now (self .entry)) (now (self .exit)) ⌝ }
+        ensures ahead { λ r. ⌜ Ahead (now (self .entry)) r (now (self .exit)) ⌝ }
+        ensures took { λ r. ⌜ Took (λ _. tokens.mark wanted ∷ []) (now (self .entry)) r (now (self .exit)) ⌝ }
+        ensures goes { λ r. ⌜ Goes (λ gs. goal.mark wanted ∷ gs) (now (self .entry)) r (now (self .exit)) ⌝ }
     {
         let token = self.take()?;
         let Token::Mark { mark, .. } = token else {
@@ -59,10 +59,10 @@ impl<'a> Lexer<'a> {
 
     // A number without slope: a kind or a count.
     pub(crate) fn plain(&mut self) -> Result<i64, Refusal>
-        ensures same { λ r. ⌜ now (now (self .exit) .text) ≡ now (now (self .entry) .text) ⌝ }
-        ensures ahead { λ r. ⌜ made r (λ _. (now (self .entry) .at < now (self .exit) .at) × (now (self .exit) .at ≤ length (now (now (self .exit) .text)))) ⌝ }
-        ensures took { λ r. ⌜ made r (λ k. said (ahead (now (self .entry))) ≡ tokens.plain k ∷ said (ahead (now (self .exit)))) ⌝ }
-        ensures goes { λ r. ⌜ ((gs : List Goal) (n : ℕ) → run (ahead (now (self .entry))) (goal.plain ∷ gs) n ≡ after r (run (ahead (now (self .exit))) gs n)) ⌝ }
+        ensures same { λ r. ⌜ Same (now (self .entry)) (now (self .exit)) ⌝ }
+        ensures ahead { λ r. ⌜ Ahead (now (self .entry)) r (now (self .exit)) ⌝ }
+        ensures took { λ r. ⌜ Took (λ k. tokens.plain k ∷ []) (now (self .entry)) r (now (self .exit)) ⌝ }
+        ensures goes { λ r. ⌜ Goes (λ gs. goal.plain ∷ gs) (now (self .entry)) r (now (self .exit)) ⌝ }
     {
         let token = self.take()?;
         let Token::Number {
@@ -78,10 +78,10 @@ impl<'a> Lexer<'a> {
 
     // A number in a bracket: its constant and its slope.
     pub(crate) fn entry(&mut self) -> Result<(i64, i64), Refusal>
-        ensures same { λ r. ⌜ now (now (self .exit) .text) ≡ now (now (self .entry) .text) ⌝ }
-        ensures ahead { λ r. ⌜ made r (λ _. (now (self .entry) .at < now (self .exit) .at) × (now (self .exit) .at ≤ length (now (now (self .exit) .text)))) ⌝ }
-        ensures took { λ r. ⌜ made r (λ v. said (ahead (now (self .entry))) ≡ tokens.number (v .0) (v .1) ∷ said (ahead (now (self .exit)))) ⌝ }
-        ensures goes { λ r. ⌜ ((gs : List Goal) (n : ℕ) → run (ahead (now (self .entry))) (goal.entry ∷ gs) n ≡ after r (run (ahead (now (self .exit))) gs n)) ⌝ }
+        ensures same { λ r. ⌜ Same (now (self .entry)) (now (self .exit)) ⌝ }
+        ensures ahead { λ r. ⌜ Ahead (now (self .entry)) r (now (self .exit)) ⌝ }
+        ensures took { λ r. ⌜ Took (λ v. tokens.number (v .0) (v .1) ∷ []) (now (self .entry)) r (now (self .exit)) ⌝ }
+        ensures goes { λ r. ⌜ Goes (λ gs. goal.entry ∷ gs) (now (self .entry)) r (now (self .exit)) ⌝ }
     {
         let token = self.take()?;
         let Token::Number {
@@ -97,10 +97,10 @@ impl<'a> Lexer<'a> {
 
     // The word `Union` after `Fold`.
     pub(crate) fn union_word(&mut self) -> Result<(), Refusal>
-        ensures same { λ r. ⌜ now (now (self .exit) .text) ≡ now (now (self .entry) .text) ⌝ }
-        ensures ahead { λ r. ⌜ made r (λ _. (now (self .entry) .at < now (self .exit) .at) × (now (self .exit) .at ≤ length (now (now (self .exit) .text)))) ⌝ }
-        ensures took { λ r. ⌜ made r (λ _. said (ahead (now (self .entry))) ≡ tokens.word word.Union ∷ said (ahead (now (self .exit)))) ⌝ }
-        ensures goes { λ r. ⌜ ((gs : List Goal) (n : ℕ) → run (ahead (now (self .entry))) (goal.union ∷ gs) n ≡ after r (run (ahead (now (self .exit))) gs n)) ⌝ }
+        ensures same { λ r. ⌜ Same (now (self .entry)) (now (self .exit)) ⌝ }
+        ensures ahead { λ r. ⌜ Ahead (now (self .entry)) r (now (self .exit)) ⌝ }
+        ensures took { λ r. ⌜ Took (λ _. tokens.word word.Union ∷ []) (now (self .entry)) r (now (self .exit)) ⌝ }
+        ensures goes { λ r. ⌜ Goes (λ gs. goal.union ∷ gs) (now (self .entry)) r (now (self .exit)) ⌝ }
     {
         let token = self.take()?;
         let Token::Word {
@@ -115,10 +115,10 @@ impl<'a> Lexer<'a> {
 
     // The word `i` after `(Tabulate (`.
     pub(crate) fn index_word(&mut self) -> Result<(), Refusal>
-        ensures same { λ r. ⌜ now (now (self .exit) .text) ≡ now (now (self .entry) .text) ⌝ }
-        ensures ahead { λ r. ⌜ made r (λ _. (now (self .entry) .at < now (self .exit) .at) × (now (self .exit) .at ≤ length (now (now (self .exit) .text)))) ⌝ }
-        ensures took { λ r. ⌜ made r (λ _. said (ahead (now (self .entry))) ≡ tokens.word word.Index ∷ said (ahead (now (self .exit)))) ⌝ }
-        ensures goes { λ r. ⌜ ((gs : List Goal) (n : ℕ) → run (ahead (now (self .entry))) (goal.index ∷ gs) n ≡ after r (run (ahead (now (self .exit))) gs n)) ⌝ }
+        ensures same { λ r. ⌜ Same (now (self .entry)) (now (self .exit)) ⌝ }
+        ensures ahead { λ r. ⌜ Ahead (now (self .entry)) r (now (self .exit)) ⌝ }
+        ensures took { λ r. ⌜ Took (λ _. tokens.word word.Index ∷ []) (now (self .entry)) r (now (self .exit)) ⌝ }
+        ensures goes { λ r. ⌜ Goes (λ gs. goal.index ∷ gs) (now (self .entry)) r (now (self .exit)) ⌝ }
     {
         let token = self.take()?;
         let Token::Word {
@@ -133,10 +133,10 @@ impl<'a> Lexer<'a> {
 
     // The placement of a Map2.
     pub(crate) fn placement(&mut self) -> Result<Placement, Refusal>
-        ensures same { λ r. ⌜ now (now (self .exit) .text) ≡ now (now (self .entry) .text) ⌝ }
-        ensures ahead { λ r. ⌜ made r (λ _. (now (self .entry) .at < now (self .exit) .at) × (now (self .exit) .at ≤ length (now (now (self .exit) .text)))) ⌝ }
-        ensures took { λ r. ⌜ made r (λ t. said (ahead (now (self .entry))) ≡ tokens.word (placement-word t) ∷ said (ahead (now (self .exit)))) ⌝ }
-        ensures goes { λ r. ⌜ ((gs : List Goal) (n : ℕ) → run (ahead (now (self .entry))) (goal.placement ∷ gs) n ≡ after r (run (ahead (now (self .exit))) gs n)) ⌝ }
+        ensures same { λ r. ⌜ Same (now (self .entry)) (now (self .exit)) ⌝ }
+        ensures ahead { λ r. ⌜ Ahead (now (self .entry)) r (now (self .exit)) ⌝ }
+        ensures took { λ r. ⌜ Took (λ t. tokens.word (placement-word t) ∷ []) (now (self .entry)) r (now (self .exit)) ⌝ }
+        ensures goes { λ r. ⌜ Goes (λ gs. goal.placement ∷ gs) (now (self .entry)) r (now (self .exit)) ⌝ }
     {
         let token = self.take()?;
         let Token::Word { word, .. } = token else {
@@ -150,10 +150,10 @@ impl<'a> Lexer<'a> {
 
     // The loop of a Tabulate, `(i n)`: its count.
     pub(crate) fn loop_count(&mut self) -> Result<i64, Refusal>
-        ensures same { λ r. ⌜ now (now (self .exit) .text) ≡ now (now (self .entry) .text) ⌝ }
-        ensures ahead { λ r. ⌜ made r (λ _. (now (self .entry) .at < now (self .exit) .at) × (now (self .exit) .at ≤ length (now (now (self .exit) .text)))) ⌝ }
-        ensures took { λ r. ⌜ made r (λ k. said (ahead (now (self .entry))) ≡ tokens.mark mark.Open ∷ tokens.word word.Index ∷ tokens.plain k ∷ tokens.mark mark.Close ∷ said (ahead (now (self .exit)))) ⌝ }
-        ensures goes { λ r. ⌜ ((gs : List Goal) (n : ℕ) → run (ahead (now (self .entry))) (goal.mark mark.Open ∷ goal.index ∷ goal.plain ∷ goal.mark mark.Close ∷ gs) n ≡ after r (run (ahead (now (self .exit))) gs n)) ⌝ }
+        ensures same { λ r. ⌜ Same (now (self .entry)) (now (self .exit)) ⌝ }
+        ensures ahead { λ r. ⌜ Ahead (now (self .entry)) r (now (self .exit)) ⌝ }
+        ensures took { λ r. ⌜ Took (λ k. tokens.mark mark.Open ∷ tokens.word word.Index ∷ tokens.plain k ∷ tokens.mark mark.Close ∷ []) (now (self .entry)) r (now (self .exit)) ⌝ }
+        ensures goes { λ r. ⌜ Goes (λ gs. goal.mark mark.Open ∷ goal.index ∷ goal.plain ∷ goal.mark mark.Close ∷ gs) (now (self .entry)) r (now (self .exit)) ⌝ }
     {
         self.mark(Mark::Open)?;
         self.index_word()?;
@@ -164,10 +164,10 @@ impl<'a> Lexer<'a> {
 
     // The rest of a vector, after its bracket.
     pub(crate) fn entries(&mut self) -> Result<Linear, Refusal>
-        ensures same { λ r. ⌜ now (now (self .exit) .text) ≡ now (now (self .entry) .text) ⌝ }
-        ensures ahead { λ r. ⌜ made r (λ _. (now (self .entry) .at < now (self .exit) .at) × (now (self .exit) .at ≤ length (now (now (self .exit) .text)))) ⌝ }
+        ensures same { λ r. ⌜ Same (now (self .entry)) (now (self .exit)) ⌝ }
+        ensures ahead { λ r. ⌜ Ahead (now (self .entry)) r (now (self .exit)) ⌝ }
         ensures took { λ r. ⌜ made r (λ v. tokens.mark mark.Left ∷ said (ahead (now (self .entry))) ≡ bracket v ++ said (ahead (now (self .exit)))) ⌝ }
-        ensures goes { λ r. ⌜ ((gs : List Goal) (n : ℕ) → run (ahead (now (self .entry))) (goal.entries gs) n ≡ after r (run (ahead (now (self .exit))) gs n)) ⌝ }
+        ensures goes { λ r. ⌜ Goes (λ gs. goal.entries gs) (now (self .entry)) r (now (self .exit)) ⌝ }
     {
         let (x, along_x) = self.entry()?;
         self.mark(Mark::Comma)?;
@@ -187,10 +187,10 @@ impl<'a> Lexer<'a> {
 
     // A vector.
     pub(crate) fn bracket(&mut self) -> Result<Linear, Refusal>
-        ensures same { λ r. ⌜ now (now (self .exit) .text) ≡ now (now (self .entry) .text) ⌝ }
-        ensures ahead { λ r. ⌜ made r (λ _. (now (self .entry) .at < now (self .exit) .at) × (now (self .exit) .at ≤ length (now (now (self .exit) .text)))) ⌝ }
-        ensures took { λ r. ⌜ made r (λ v. said (ahead (now (self .entry))) ≡ bracket v ++ said (ahead (now (self .exit)))) ⌝ }
-        ensures goes { λ r. ⌜ ((gs : List Goal) (n : ℕ) → run (ahead (now (self .entry))) (goal.mark mark.Left ∷ goal.entries gs) n ≡ after r (run (ahead (now (self .exit))) gs n)) ⌝ }
+        ensures same { λ r. ⌜ Same (now (self .entry)) (now (self .exit)) ⌝ }
+        ensures ahead { λ r. ⌜ Ahead (now (self .entry)) r (now (self .exit)) ⌝ }
+        ensures took { λ r. ⌜ Took (λ v. bracket v) (now (self .entry)) r (now (self .exit)) ⌝ }
+        ensures goes { λ r. ⌜ Goes (λ gs. goal.mark mark.Left ∷ goal.entries gs) (now (self .entry)) r (now (self .exit)) ⌝ }
     {
         self.mark(Mark::Left)?;
         let vector = self.entries()?;
