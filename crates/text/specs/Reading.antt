@@ -32,6 +32,10 @@ Same a b = b .text .now ≡ a .text .now
 abbrev pub Ahead : {X : Type 0} → Lexer → Result X Refusal → Lexer → Type 0
 Ahead a r b = made r (λ _. (a .at < b .at) × (b .at ≤ length (b .text .now)))
 
+-- the reader has not gone back, nor past the text's end
+abbrev pub Onward : {X : Type 0} → Lexer → Result X Refusal → Lexer → Type 0
+Onward a r b = made r (λ _. (a .at ≤ b .at) × (b .at ≤ length (b .text .now)))
+
 -- these tokens were taken
 abbrev pub Took : {X : Type 0} → (X → List Token) → Lexer → Result X Refusal → Lexer → Type 0
 Took says a r b = made r (λ v. said (ahead a) ≡ says v ++ said (ahead b))
@@ -64,3 +68,11 @@ pub record Read (ss : List Sort) (ts ts′ : List Token) (old new : List Node) :
   pub which : Exprs ss
   pub text : ts ≡ row which ++ ts′
   pub made : new ≡ old ++ flattens which
+
+-- expressions of these sorts were read, whose tokens begin ts
+abbrev pub Has-read : {X : Type 0} → List Sort → List Token → Result X Refusal → Lexer → List Node → List Node → Type 0
+Has-read ss ts r b old new = made r (λ _. Read ss ts (said (ahead b)) old new)
+
+-- with m nodes the outcome is what the rest of the text has, or the refusal
+abbrev pub Leads : {X : Type 0} → (List Goal → Outcome) → Result X Refusal → Lexer → ℕ → Type 0
+Leads from r b m = (gs : List Goal) → from gs ≡ after r (run (ahead b) gs m)

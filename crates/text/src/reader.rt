@@ -16,7 +16,7 @@ ghost use Rattle.model.specs.Syntax.{solid, vector, one, many};
 ghost use Rattle.model.specs.Tokens as tokens;
 ghost use Rattle.text.specs.Forms.{kind-of};
 ghost use Rattle.text.specs.Lexer.{ahead, token-of};
-ghost use Rattle.text.specs.Reading.{after, closes, judge, Read};
+ghost use Rattle.text.specs.Reading.{after, closes, judge, Ahead, Has-read, Leads, Onward, Read, Same};
 use super::form::Element;
 use super::form::ListForm;
 use super::form::SolidForm;
@@ -55,12 +55,12 @@ fn read_element(
     out: &mut Vec<Node>,
 ) -> Result<(), Refusal>
     requires { ⌜ 640 ≤ vec-cap (now out) ⌝ }
-    ensures same { λ r. ⌜ now (now (src .exit) .text) ≡ now (now (src .entry) .text) ⌝ }
-    ensures ahead { λ r. ⌜ made r (λ _. (now (src .entry) .at < now (src .exit) .at) × (now (src .exit) .at ≤ length (now (now (src .exit) .text)))) ⌝ }
-    ensures read { λ r. ⌜ made r (λ _. Read (one (kind-of element) ∷ []) (said (ahead (now (src .entry)))) (said (ahead (now (src .exit)))) (vec-items (now (out .entry))) (vec-items (now (out .exit)))) ⌝ }
+    ensures same { λ r. ⌜ Same (now (src .entry)) (now (src .exit)) ⌝ }
+    ensures ahead { λ r. ⌜ Ahead (now (src .entry)) r (now (src .exit)) ⌝ }
+    ensures read { λ r. ⌜ Has-read (one (kind-of element) ∷ []) (said (ahead (now (src .entry)))) r (now (src .exit)) (vec-items (now (out .entry))) (vec-items (now (out .exit))) ⌝ }
     ensures longer { λ r. ⌜ vec-len (now (out .entry)) ≤ vec-len (now (out .exit)) ⌝ }
     ensures cap { λ r. ⌜ vec-cap (now (out .exit)) ≡ vec-cap (now (out .entry)) ⌝ }
-    ensures goes { λ r. ⌜ ((gs : List Goal) → run (ahead (now (src .entry))) (goal.element (kind-of element) levels ∷ gs) (vec-len (now (out .entry))) ≡ after r (run (ahead (now (src .exit))) gs (vec-len (now (out .exit))))) ⌝ }
+    ensures goes { λ r. ⌜ Leads (λ gs. run (ahead (now (src .entry))) (goal.element (kind-of element) levels ∷ gs) (vec-len (now (out .entry)))) r (now (src .exit)) (vec-len (now (out .exit))) ⌝ }
 {
     let token = src.take()?;
     element_from(token, src, element, levels, out)?;
@@ -77,12 +77,12 @@ fn element_from(
 ) -> Result<(), Refusal>
     requires cap { ⌜ 640 ≤ vec-cap (now out) ⌝ }
     requires within { ⌜ now src .at ≤ length (now (now src .text)) ⌝ }
-    ensures same { λ r. ⌜ now (now (src .exit) .text) ≡ now (now (src .entry) .text) ⌝ }
-    ensures ahead { λ r. ⌜ made r (λ _. (now (src .entry) .at ≤ now (src .exit) .at) × (now (src .exit) .at ≤ length (now (now (src .exit) .text)))) ⌝ }
-    ensures read { λ r. ⌜ made r (λ _. Read (one (kind-of element) ∷ []) (token-of (token .entry) ∷ said (ahead (now (src .entry)))) (said (ahead (now (src .exit)))) (vec-items (now (out .entry))) (vec-items (now (out .exit)))) ⌝ }
+    ensures same { λ r. ⌜ Same (now (src .entry)) (now (src .exit)) ⌝ }
+    ensures ahead { λ r. ⌜ Onward (now (src .entry)) r (now (src .exit)) ⌝ }
+    ensures read { λ r. ⌜ Has-read (one (kind-of element) ∷ []) (token-of (token .entry) ∷ said (ahead (now (src .entry)))) r (now (src .exit)) (vec-items (now (out .entry))) (vec-items (now (out .exit))) ⌝ }
     ensures longer { λ r. ⌜ vec-len (now (out .entry)) ≤ vec-len (now (out .exit)) ⌝ }
     ensures cap { λ r. ⌜ vec-cap (now (out .exit)) ≡ vec-cap (now (out .entry)) ⌝ }
-    ensures goes { λ r. ⌜ ((gs : List Goal) → judge (token .entry) (now (src .entry)) (goal.element (kind-of element) levels) gs (vec-len (now (out .entry))) ≡ after r (run (ahead (now (src .exit))) gs (vec-len (now (out .exit))))) ⌝ }
+    ensures goes { λ r. ⌜ Leads (λ gs. judge (token .entry) (now (src .entry)) (goal.element (kind-of element) levels) gs (vec-len (now (out .entry)))) r (now (src .exit)) (vec-len (now (out .exit))) ⌝ }
 {
     match element {
         Element::Solid => {
@@ -104,12 +104,12 @@ fn vector_from(
 ) -> Result<(), Refusal>
     requires cap { ⌜ 640 ≤ vec-cap (now out) ⌝ }
     requires within { ⌜ now src .at ≤ length (now (now src .text)) ⌝ }
-    ensures same { λ r. ⌜ now (now (src .exit) .text) ≡ now (now (src .entry) .text) ⌝ }
-    ensures ahead { λ r. ⌜ made r (λ _. (now (src .entry) .at ≤ now (src .exit) .at) × (now (src .exit) .at ≤ length (now (now (src .exit) .text)))) ⌝ }
-    ensures read { λ r. ⌜ made r (λ _. Read (one vector ∷ []) (token-of (token .entry) ∷ said (ahead (now (src .entry)))) (said (ahead (now (src .exit)))) (vec-items (now (out .entry))) (vec-items (now (out .exit)))) ⌝ }
+    ensures same { λ r. ⌜ Same (now (src .entry)) (now (src .exit)) ⌝ }
+    ensures ahead { λ r. ⌜ Onward (now (src .entry)) r (now (src .exit)) ⌝ }
+    ensures read { λ r. ⌜ Has-read (one vector ∷ []) (token-of (token .entry) ∷ said (ahead (now (src .entry)))) r (now (src .exit)) (vec-items (now (out .entry))) (vec-items (now (out .exit))) ⌝ }
     ensures longer { λ r. ⌜ vec-len (now (out .entry)) ≤ vec-len (now (out .exit)) ⌝ }
     ensures cap { λ r. ⌜ vec-cap (now (out .exit)) ≡ vec-cap (now (out .entry)) ⌝ }
-    ensures goes { λ r. ⌜ ((gs : List Goal) → judge (token .entry) (now (src .entry)) (goal.element vector levels) gs (vec-len (now (out .entry))) ≡ after r (run (ahead (now (src .exit))) gs (vec-len (now (out .exit))))) ⌝ }
+    ensures goes { λ r. ⌜ Leads (λ gs. judge (token .entry) (now (src .entry)) (goal.element vector levels) gs (vec-len (now (out .entry)))) r (now (src .exit)) (vec-len (now (out .exit))) ⌝ }
 {
     let Token::Mark {
         mark: Mark::Left,
@@ -132,12 +132,12 @@ fn solid_from(
 ) -> Result<(), Refusal>
     requires cap { ⌜ 640 ≤ vec-cap (now out) ⌝ }
     requires within { ⌜ now src .at ≤ length (now (now src .text)) ⌝ }
-    ensures same { λ r. ⌜ now (now (src .exit) .text) ≡ now (now (src .entry) .text) ⌝ }
-    ensures ahead { λ r. ⌜ made r (λ _. (now (src .entry) .at ≤ now (src .exit) .at) × (now (src .exit) .at ≤ length (now (now (src .exit) .text)))) ⌝ }
-    ensures read { λ r. ⌜ made r (λ _. Read (one solid ∷ []) (token-of (token .entry) ∷ said (ahead (now (src .entry)))) (said (ahead (now (src .exit)))) (vec-items (now (out .entry))) (vec-items (now (out .exit)))) ⌝ }
+    ensures same { λ r. ⌜ Same (now (src .entry)) (now (src .exit)) ⌝ }
+    ensures ahead { λ r. ⌜ Onward (now (src .entry)) r (now (src .exit)) ⌝ }
+    ensures read { λ r. ⌜ Has-read (one solid ∷ []) (token-of (token .entry) ∷ said (ahead (now (src .entry)))) r (now (src .exit)) (vec-items (now (out .entry))) (vec-items (now (out .exit))) ⌝ }
     ensures longer { λ r. ⌜ vec-len (now (out .entry)) ≤ vec-len (now (out .exit)) ⌝ }
     ensures cap { λ r. ⌜ vec-cap (now (out .exit)) ≡ vec-cap (now (out .entry)) ⌝ }
-    ensures goes { λ r. ⌜ ((gs : List Goal) → judge (token .entry) (now (src .entry)) (goal.element solid levels) gs (vec-len (now (out .entry))) ≡ after r (run (ahead (now (src .exit))) gs (vec-len (now (out .exit))))) ⌝ }
+    ensures goes { λ r. ⌜ Leads (λ gs. judge (token .entry) (now (src .entry)) (goal.element solid levels) gs (vec-len (now (out .entry)))) r (now (src .exit)) (vec-len (now (out .exit))) ⌝ }
 {
     if let Token::Word {
         word: Word::Empty,
@@ -163,12 +163,12 @@ fn solid_from(
 fn read_inside(src: &mut Lexer<'_>, levels: u16, out: &mut Vec<Node>) -> Result<(), Refusal>
     requires cap { ⌜ 640 ≤ vec-cap (now out) ⌝ }
     requires len { ⌜ vec-len (now out) < 640 ⌝ }
-    ensures same { λ r. ⌜ now (now (src .exit) .text) ≡ now (now (src .entry) .text) ⌝ }
-    ensures ahead { λ r. ⌜ made r (λ _. (now (src .entry) .at < now (src .exit) .at) × (now (src .exit) .at ≤ length (now (now (src .exit) .text)))) ⌝ }
-    ensures read { λ r. ⌜ made r (λ _. Read (one solid ∷ []) (tokens.mark mark.Open ∷ said (ahead (now (src .entry)))) (said (ahead (now (src .exit)))) (vec-items (now (out .entry))) (vec-items (now (out .exit)))) ⌝ }
+    ensures same { λ r. ⌜ Same (now (src .entry)) (now (src .exit)) ⌝ }
+    ensures ahead { λ r. ⌜ Ahead (now (src .entry)) r (now (src .exit)) ⌝ }
+    ensures read { λ r. ⌜ Has-read (one solid ∷ []) (tokens.mark mark.Open ∷ said (ahead (now (src .entry)))) r (now (src .exit)) (vec-items (now (out .entry))) (vec-items (now (out .exit))) ⌝ }
     ensures longer { λ r. ⌜ vec-len (now (out .entry)) ≤ vec-len (now (out .exit)) ⌝ }
     ensures cap { λ r. ⌜ vec-cap (now (out .exit)) ≡ vec-cap (now (out .entry)) ⌝ }
-    ensures goes { λ r. ⌜ ((gs : List Goal) → run (ahead (now (src .entry))) (goal.inSolid levels ∷ gs) (vec-len (now (out .entry)) + 1) ≡ after r (run (ahead (now (src .exit))) gs (vec-len (now (out .exit))))) ⌝ }
+    ensures goes { λ r. ⌜ Leads (λ gs. run (ahead (now (src .entry))) (goal.inSolid levels ∷ gs) (vec-len (now (out .entry)) + 1)) r (now (src .exit)) (vec-len (now (out .exit))) ⌝ }
 {
     let token = src.take()?;
     let Token::Word { word, .. } = token else {
@@ -216,12 +216,12 @@ fn read_list(
     out: &mut Vec<Node>,
 ) -> Result<(), Refusal>
     requires { ⌜ 640 ≤ vec-cap (now out) ⌝ }
-    ensures same { λ r. ⌜ now (now (src .exit) .text) ≡ now (now (src .entry) .text) ⌝ }
-    ensures ahead { λ r. ⌜ made r (λ _. (now (src .entry) .at < now (src .exit) .at) × (now (src .exit) .at ≤ length (now (now (src .exit) .text)))) ⌝ }
-    ensures read { λ r. ⌜ made r (λ _. Read (many (kind-of element) ∷ []) (said (ahead (now (src .entry)))) (said (ahead (now (src .exit)))) (vec-items (now (out .entry))) (vec-items (now (out .exit)))) ⌝ }
+    ensures same { λ r. ⌜ Same (now (src .entry)) (now (src .exit)) ⌝ }
+    ensures ahead { λ r. ⌜ Ahead (now (src .entry)) r (now (src .exit)) ⌝ }
+    ensures read { λ r. ⌜ Has-read (many (kind-of element) ∷ []) (said (ahead (now (src .entry)))) r (now (src .exit)) (vec-items (now (out .entry))) (vec-items (now (out .exit))) ⌝ }
     ensures longer { λ r. ⌜ vec-len (now (out .entry)) ≤ vec-len (now (out .exit)) ⌝ }
     ensures cap { λ r. ⌜ vec-cap (now (out .exit)) ≡ vec-cap (now (out .entry)) ⌝ }
-    ensures goes { λ r. ⌜ ((gs : List Goal) → run (ahead (now (src .entry))) (goal.list (kind-of element) levels ∷ gs) (vec-len (now (out .entry))) ≡ after r (run (ahead (now (src .exit))) gs (vec-len (now (out .exit))))) ⌝ }
+    ensures goes { λ r. ⌜ Leads (λ gs. run (ahead (now (src .entry))) (goal.list (kind-of element) levels ∷ gs) (vec-len (now (out .entry)))) r (now (src .exit)) (vec-len (now (out .exit))) ⌝ }
 {
     let token = src.take()?;
     let Token::Mark {
@@ -245,12 +245,12 @@ fn read_inside_list(
 ) -> Result<(), Refusal>
     requires cap { ⌜ 640 ≤ vec-cap (now out) ⌝ }
     requires len { ⌜ vec-len (now out) < 640 ⌝ }
-    ensures same { λ r. ⌜ now (now (src .exit) .text) ≡ now (now (src .entry) .text) ⌝ }
-    ensures ahead { λ r. ⌜ made r (λ _. (now (src .entry) .at < now (src .exit) .at) × (now (src .exit) .at ≤ length (now (now (src .exit) .text)))) ⌝ }
-    ensures read { λ r. ⌜ made r (λ _. Read (many (kind-of element) ∷ []) (tokens.mark mark.Open ∷ said (ahead (now (src .entry)))) (said (ahead (now (src .exit)))) (vec-items (now (out .entry))) (vec-items (now (out .exit)))) ⌝ }
+    ensures same { λ r. ⌜ Same (now (src .entry)) (now (src .exit)) ⌝ }
+    ensures ahead { λ r. ⌜ Ahead (now (src .entry)) r (now (src .exit)) ⌝ }
+    ensures read { λ r. ⌜ Has-read (many (kind-of element) ∷ []) (tokens.mark mark.Open ∷ said (ahead (now (src .entry)))) r (now (src .exit)) (vec-items (now (out .entry))) (vec-items (now (out .exit))) ⌝ }
     ensures longer { λ r. ⌜ vec-len (now (out .entry)) ≤ vec-len (now (out .exit)) ⌝ }
     ensures cap { λ r. ⌜ vec-cap (now (out .exit)) ≡ vec-cap (now (out .entry)) ⌝ }
-    ensures goes { λ r. ⌜ ((gs : List Goal) → run (ahead (now (src .entry))) (goal.inList (kind-of element) levels ∷ gs) (vec-len (now (out .entry)) + 1) ≡ after r (run (ahead (now (src .exit))) gs (vec-len (now (out .exit))))) ⌝ }
+    ensures goes { λ r. ⌜ Leads (λ gs. run (ahead (now (src .entry))) (goal.inList (kind-of element) levels ∷ gs) (vec-len (now (out .entry)) + 1)) r (now (src .exit)) (vec-len (now (out .exit))) ⌝ }
 {
     let token = src.take()?;
     let Token::Word { word, .. } = token else {
@@ -307,12 +307,12 @@ fn read_elements(
     out: &mut Vec<Node>,
 ) -> Result<usize, Refusal>
     requires { ⌜ 640 ≤ vec-cap (now out) ⌝ }
-    ensures same { λ r. ⌜ now (now (src .exit) .text) ≡ now (now (src .entry) .text) ⌝ }
+    ensures same { λ r. ⌜ Same (now (src .entry)) (now (src .exit)) ⌝ }
     ensures ahead { λ r. ⌜ made r (λ n. (now (src .entry) .at + n < now (src .exit) .at) × (now (src .exit) .at ≤ length (now (now (src .exit) .text)))) ⌝ }
     ensures read { λ r. ⌜ made r (λ n. Read (replicate n (one (kind-of element))) (said (ahead (now (src .entry)))) (tokens.mark mark.Close ∷ said (ahead (now (src .exit)))) (vec-items (now (out .entry))) (vec-items (now (out .exit)))) ⌝ }
     ensures longer { λ r. ⌜ vec-len (now (out .entry)) ≤ vec-len (now (out .exit)) ⌝ }
     ensures cap { λ r. ⌜ vec-cap (now (out .exit)) ≡ vec-cap (now (out .entry)) ⌝ }
-    ensures goes { λ r. ⌜ ((gs : List Goal) → run (ahead (now (src .entry))) (goal.elements (kind-of element) levels ∷ gs) (vec-len (now (out .entry))) ≡ after r (run (ahead (now (src .exit))) gs (vec-len (now (out .exit))))) ⌝ }
+    ensures goes { λ r. ⌜ Leads (λ gs. run (ahead (now (src .entry))) (goal.elements (kind-of element) levels ∷ gs) (vec-len (now (out .entry)))) r (now (src .exit)) (vec-len (now (out .exit))) ⌝ }
 {
     let token = src.take()?;
     if is_close(token) {
