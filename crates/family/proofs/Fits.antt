@@ -81,3 +81,20 @@ radius-fits r p e f =
   where
     small : (z : ℤ) → natAbs z ≤ 1000000000 → SFits w64 z
     small z h = omega (arith, ints)
+
+-- a number of 64 bits times a coordinate in reach
+far-product : (a x : ℤ) → SFits w64 a → natAbs x ≤ 1000000000 → natAbs (a *ℤ x) ≤ 9223372036854775808000000000
+far-product a x f h = abs-bound a x 9223372036854775808 1000000000 (omega (arith, ints)) h
+
+-- the sums of such products
+pub record Sums-fit (a b c : ℤ) : Type 0 where
+  pub two : SFits w128 (a +ℤ b)
+  pub three : SFits w128 (a +ℤ b +ℤ c)
+
+pub sums-fit : (p q r : ℤ) (at : Point) → SFits w64 p → SFits w64 q → SFits w64 r → in-reach at ≡ true → Sums-fit (p *ℤ at .x) (q *ℤ at .y) (r *ℤ at .z)
+sums-fit p q r at fp fq fr e =
+    let n = reached at e in
+    sums (p *ℤ at .x) (q *ℤ at .y) (r *ℤ at .z) (far-product p (at .x) fp (n .x)) (far-product q (at .y) fq (n .y)) (far-product r (at .z) fr (n .z))
+  where
+    sums : (a b c : ℤ) → natAbs a ≤ 9223372036854775808000000000 → natAbs b ≤ 9223372036854775808000000000 → natAbs c ≤ 9223372036854775808000000000 → Sums-fit a b c
+    sums a b c ha hb hc = record { two = omega (arith, ints); three = omega (arith, ints) }

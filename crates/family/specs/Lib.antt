@@ -5,3 +5,5 @@ pub mod Scaled
 pub mod BoxLaws
 pub mod CylinderLaws
 pub mod StandardLaws
+pub mod Catalogue
+pub mod CatalogueLaws

@@ -1,8 +1,12 @@
 // Families of primitives: boxes and cylinders, profiles out of a table, and two families side by side.
+mod catalogue;
 mod exact;
 mod family;
 mod standard;
 
+pub use catalogue::Catalogue;
+pub use catalogue::CatalogueFamily;
+pub use catalogue::Row;
 pub use family::Family;
 pub use family::Reach;
 pub use standard::Standard;
