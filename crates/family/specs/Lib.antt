@@ -7,3 +7,5 @@ pub mod CylinderLaws
 pub mod StandardLaws
 pub mod Catalogue
 pub mod CatalogueLaws
+pub mod Beside
+pub mod BesideLaws
