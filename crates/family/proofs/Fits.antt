@@ -1,6 +1,6 @@
 -- Products and sums that fit their types.
 use mathlib.Core.Path.{_≡_, refl}
-use mathlib.Core.Bool.{Bool, true, _&&_}
+use mathlib.Core.Bool.{true, _&&_}
 use Prim.Native.Nat.{ℕ, zero, suc, _*_, _^_, _≤_}
 use native.Mathlib.Nat.{mul-le-mul}
 use native.Mathlib.Omega.{arith}
@@ -13,6 +13,7 @@ use mir.Val.{SFits}
 use Rattle.std.proofs.shelf.Tests.{and-parts}
 use Rattle.model.specs.declared.point.Point.{Point}
 use Rattle.model.specs.declared.point.Primitive.{Primitive}
+use Rattle.model.specs.Bytes.{is-zero}
 use Rattle.family.specs.Reaching.{between, farthest, near, in-reach}
 use Rattle.family.specs.Standard.{is-size, is-cylinder}
 
@@ -74,7 +75,7 @@ size-abs v e = let h = and-parts (leZ (pos 1) v) (leZ v (pos 1000000)) e in omeg
 -- a cylinder's radius over the divisor of a point in reach
 pub radius-fits : (r : Primitive) (p : Point) → is-cylinder r ≡ true → in-reach p ≡ true → SFits w64 (r .sizes .x *ℤ p .w)
 radius-fits r p e f =
-    let a = and-parts (eqb (r .kind) 2 && is-size (r .sizes .x) && is-size (r .sizes .y)) (between (pos 0) (r .sizes .z) (pos 0)) e in
+    let a = and-parts (eqb (r .kind) 2 && is-size (r .sizes .x) && is-size (r .sizes .y)) (is-zero (r .sizes .z)) e in
     let b = and-parts (eqb (r .kind) 2 && is-size (r .sizes .x)) (is-size (r .sizes .y)) (a .0) in
     let c = and-parts (eqb (r .kind) 2) (is-size (r .sizes .x)) (b .0) in
     small (r .sizes .x *ℤ p .w) (abs-bound (r .sizes .x) (p .w) 1000000 1000 (size-abs (r .sizes .x) (c .1)) (reached p f .w))

@@ -1,6 +1,6 @@
 -- Sizes that each rest on a test make a record that rests on all the tests.
 use mathlib.Core.Path.{_≡_, refl, sym, _∙_, ap, subst}
-use mathlib.Core.Bool.{Bool, true, false, cond, _&&_}
+use mathlib.Core.Bool.{Bool, true, false, _&&_}
 use Prim.Native.Nat.{ℕ}
 use native.Mathlib.Omega.{arith}
 use borrow.Author.Differences.{ints}
@@ -9,10 +9,10 @@ use lib.IntN.{ℤ, pos, natAbs, _*ℤ_}
 use lib.Signed.{leZ, ltZ, _≤ℤ_}
 use Rattle.std.proofs.shelf.Tests.{and-parts}
 use Rattle.std.specs.declared.option.Option.{Option}
-use Rattle.std.specs.declared.option.Option.the-variants.{Some, None}
+use Rattle.std.specs.declared.option.Option.the-variants.{Some}
 use Rattle.model.specs.declared.node.Triple.{Triple}
 use Rattle.model.specs.declared.point.Primitive.{Primitive}
-use Rattle.family.specs.Reaching.{between}
+use Rattle.model.specs.Bytes.{is-zero}
 use Rattle.family.specs.Standard.{when, joint, is-size, is-box, is-cylinder, larger-box, larger-cylinder, box-absorbed, cylinder-absorbed}
 
 joint-when : (k : ℕ) (x y z : ℤ) (a b c : Bool)
@@ -52,7 +52,7 @@ pub record Round (r : Primitive) : Type 0 where
 
 pub round : (r : Primitive) → is-cylinder r ≡ true → Round r
 round r e =
-    let a = and-parts (eqb (r .kind) 2 && is-size (r .sizes .x) && is-size (r .sizes .y)) (between (pos 0) (r .sizes .z) (pos 0)) e in
+    let a = and-parts (eqb (r .kind) 2 && is-size (r .sizes .x) && is-size (r .sizes .y)) (is-zero (r .sizes .z)) e in
     let b = and-parts (eqb (r .kind) 2 && is-size (r .sizes .x)) (is-size (r .sizes .y)) (a .0) in
     let c = and-parts (eqb (r .kind) 2) (is-size (r .sizes .x)) (b .0) in
     let h = and-parts (leZ (pos 1) (r .sizes .x)) (leZ (r .sizes .x) (pos 1000000)) (c .1) in

@@ -15,5 +15,5 @@ same-kinds k side None h = refl
 same-kinds k side (Some q) h = ap (λ (j : ℕ). Some (of-kind j q)) (sym (h q refl))
 
 pub raised : (m : Meaning) → Laws m → (side : ℕ) (r : Primitive) (f : Triple) → r .kind % 2 ≡ side
-  → mapped (of-kind (r .kind)) (m .absorbed (own r) f) ≡ mapped (outer side) (m .absorbed (own r) f)
+    → mapped (of-kind (r .kind)) (m .absorbed (own r) f) ≡ mapped (outer side) (m .absorbed (own r) f)
 raised m lm side r f e = same-kinds (r .kind) side (m .absorbed (own r) f) (λ q h. outer-kind side r q e (lm .absorbs (own r) f q h .same-kind))

@@ -27,5 +27,5 @@ abbrev pub beside : Meaning → Meaning → Meaning
 beside m n = record {
   legal = λ r. cond (is-first r) (m .legal (own r)) (n .legal (own r));
   contains = λ r p. cond (is-first r) (m .contains (own r) p) (n .contains (own r) p);
-  absorbed = λ r f. cond (is-first r) (mapped (outer 0) (m .absorbed (own r) f)) (mapped (outer 1) (n .absorbed (own r) f))
+  absorbed = λ r f. cond (is-first r) (mapped (outer 0) (m .absorbed (own r) f)) (mapped (outer 1) (n .absorbed (own r) f));
 }

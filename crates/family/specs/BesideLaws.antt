@@ -1,7 +1,7 @@
 -- Two lawful families side by side are a lawful family. Assumes nothing.
 use mathlib.Core.Path.{_≡_, refl, sym, _∙_, ap, subst}
-use mathlib.Core.Bool.{Bool, true, false, cond}
-use mathlib.Core.Logic.{_⊎_, inl, inr}
+use mathlib.Core.Bool.{true, false, cond}
+use mathlib.Core.Logic.{inl, inr}
 use Prim.Native.Nat.{ℕ, _+_, _*_, _/_, _%_, _<_}
 use native.Mathlib.Omega.{arith}
 use lib.IntN.{ℤ, pos}
@@ -36,8 +36,8 @@ module _ (m n : Meaning) (lm : Laws m) (ln : Laws n) where
   empty : (r : Primitive) (p : Point) → beside m n .legal r ≡ false → beside m n .contains r p ≡ false
   empty r p e =
       elim (cases-bool (is-first r)) [
-        inl b ↦ cond-true (is-first r) _ _ b ∙ lm .illegal-empty (own r) p (sym (cond-true (is-first r) (m .legal (own r)) (n .legal (own r)) b) ∙ e)
-      | inr b ↦ cond-false (is-first r) _ _ b ∙ ln .illegal-empty (own r) p (sym (cond-false (is-first r) (m .legal (own r)) (n .legal (own r)) b) ∙ e)
+        | inl b ↦ cond-true (is-first r) _ _ b ∙ lm .illegal-empty (own r) p (sym (cond-true (is-first r) (m .legal (own r)) (n .legal (own r)) b) ∙ e)
+        | inr b ↦ cond-false (is-first r) _ _ b ∙ ln .illegal-empty (own r) p (sym (cond-false (is-first r) (m .legal (own r)) (n .legal (own r)) b) ∙ e)
       ]
 
   place : (r : Primitive) (p : Point) (k : ℤ) → pos 0 <ℤ p .w → pos 0 <ℤ k → beside m n .contains r (times k p) ≡ beside m n .contains r p
@@ -56,7 +56,7 @@ module _ (m n : Meaning) (lm : Laws m) (ln : Laws n) where
         no-zero = law .no-zero;
         legal-after = cond-true (is-first (outer 0 x)) _ _ b2 ∙ ap (m .legal) back ∙ law .legal-after;
         same-kind = outer-kind 0 r x (eqb-true (r .kind % 2) 0 b) (law .same-kind);
-        same-points = λ p h. cond-true (is-first (outer 0 x)) _ _ b2 ∙ ap (λ (y : Primitive). m .contains y p) back ∙ law .same-points p h ∙ sym (cond-true (is-first r) _ _ b)
+        same-points = λ p h. cond-true (is-first (outer 0 x)) _ _ b2 ∙ ap (λ (y : Primitive). m .contains y p) back ∙ law .same-points p h ∙ sym (cond-true (is-first r) _ _ b);
       })
 
   second-case : (r : Primitive) (f : Triple) (q : Primitive) → is-first r ≡ false → mapped (outer 1) (n .absorbed (own r) f) ≡ Some q → Absorbs (beside m n) r f q
@@ -74,7 +74,7 @@ module _ (m n : Meaning) (lm : Laws m) (ln : Laws n) where
         no-zero = law .no-zero;
         legal-after = cond-false (is-first (outer 1 x)) _ _ b2 ∙ ap (n .legal) back ∙ law .legal-after;
         same-kind = outer-kind 1 r x side (law .same-kind);
-        same-points = λ p h. cond-false (is-first (outer 1 x)) _ _ b2 ∙ ap (λ (y : Primitive). n .contains y p) back ∙ law .same-points p h ∙ sym (cond-false (is-first r) _ _ b)
+        same-points = λ p h. cond-false (is-first (outer 1 x)) _ _ b2 ∙ ap (λ (y : Primitive). n .contains y p) back ∙ law .same-points p h ∙ sym (cond-false (is-first r) _ _ b);
       })
 
   absorbing : (r : Primitive) (f : Triple) (q : Primitive) → beside m n .absorbed r f ≡ Some q → Absorbs (beside m n) r f q
@@ -82,8 +82,8 @@ module _ (m n : Meaning) (lm : Laws m) (ln : Laws n) where
       let one : Option Primitive = mapped (outer 0) (m .absorbed (own r) f) in
       let two : Option Primitive = mapped (outer 1) (n .absorbed (own r) f) in
       elim (cases-bool (is-first r)) [
-        inl b ↦ first-case r f q b (sym (cond-true (is-first r) one two b) ∙ e)
-      | inr b ↦ second-case r f q b (sym (cond-false (is-first r) one two b) ∙ e)
+        | inl b ↦ first-case r f q b (sym (cond-true (is-first r) one two b) ∙ e)
+        | inr b ↦ second-case r f q b (sym (cond-false (is-first r) one two b) ∙ e)
       ]
 
   pub beside-laws : Laws (beside m n)

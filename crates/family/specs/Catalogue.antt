@@ -8,6 +8,7 @@ use lib.Signed.{leZ}
 use Rattle.std.specs.declared.option.Option.the-variants.{None}
 use Rattle.model.specs.declared.point.Point.{Point}
 use Rattle.model.specs.declared.point.Primitive.{Primitive}
+use Rattle.model.specs.Bytes.{is-zero}
 use Rattle.model.specs.Families.{Meaning}
 use Rattle.family.specs.declared.catalogue.Row.{Row}
 use Rattle.family.specs.Reaching.{between, near}
@@ -46,13 +47,9 @@ abbrev pub every : (Row → Bool) → List Row → Bool
 every f [] = true
 every f (row ∷ rows) = f row && every f rows
 
--- the number is 0
-abbrev pub is-0 : ℤ → Bool
-is-0 v = between (pos 0) v (pos 0)
-
 -- the record has no sizes
 abbrev pub no-sizes : Primitive → Bool
-no-sizes r = is-0 (r .sizes .x) && is-0 (r .sizes .y) && is-0 (r .sizes .z)
+no-sizes r = is-zero (r .sizes .x) && is-zero (r .sizes .y) && is-zero (r .sizes .z)
 
 -- the record has no sizes, and is a profile whose rows are in range
 abbrev pub listed : List Row → Primitive → Bool
@@ -63,5 +60,5 @@ abbrev pub catalogue : List Row → Meaning
 catalogue rows = record {
   legal = listed rows;
   contains = λ r p. cond (listed rows r) (every (admits (r .kind) p) rows) false;
-  absorbed = λ r f. None
+  absorbed = λ r f. None;
 }

@@ -1,6 +1,6 @@
 -- A catalogue keeps the laws of a family. Assumes nothing.
 use mathlib.Core.Path.{_≡_, refl, sym, ap, subst}
-use mathlib.Core.Bool.{Bool, false, true, cond, _&&_}
+use mathlib.Core.Bool.{Bool, false, true, cond}
 use mathlib.Core.List.{List, [], _∷_}
 use Prim.Native.Nat.{ℕ, _<_}
 use lib.IntN.{ℤ, pos, _+ℤ_, _*ℤ_}
@@ -36,5 +36,5 @@ pub catalogue-laws : (rows : List Row) → Laws (catalogue rows)
 catalogue-laws rows = record {
   illegal-empty = λ r p e. cond-false (listed rows r) (every (admits (r .kind) p) rows) false e;
   absorbs = λ r f q e. absurd (never q e);
-  same-place = λ r p k w h. place rows r p k h
+  same-place = λ r p k w h. place rows r p k h;
 }

@@ -1,13 +1,13 @@
 -- Tests under a positive factor. Assumes nothing.
-use mathlib.Core.Path.{_≡_, refl, sym, _∙_, ap, subst}
-use mathlib.Core.Bool.{Bool, true, false, cond, _&&_}
-use mathlib.Core.Logic.{_⊎_, inl, inr}
-use Prim.Native.Nat.{ℕ, zero, suc, _+_, _*_, _<_, _≤_}
-use native.Mathlib.Nat.{mul-le-mul-left, mul-lt-mul-of-pos-left, mul-add, zero-mul}
+use mathlib.Core.Path.{_≡_, refl, sym, _∙_, ap}
+use mathlib.Core.Bool.{Bool, true, false, _&&_}
+use mathlib.Core.Logic.{inl, inr}
+use Prim.Native.Nat.{ℕ, suc, _*_, _<_}
+use native.Mathlib.Nat.{mul-le-mul-left, mul-lt-mul-of-pos-left, mul-add}
 use native.Mathlib.Omega.{arith}
-use borrow.Author.Differences.{up, down, product-is, le-true, le-false, true-is-le, false-is-le, ints}
-use lib.IntN.{ℤ, pos, negsuc, negℤ, _+ℤ_, _*ℤ_}
-use lib.Signed.{leZ, ltZ, _<ℤ_}
+use borrow.Author.Differences.{product-is, le-true, le-false, true-is-le, false-is-le, ints}
+use lib.IntN.{ℤ, pos, negsuc, _*ℤ_}
+use lib.Signed.{leZ, _<ℤ_}
 use Rattle.std.proofs.shelf.Tests.{cases-bool}
 use Rattle.std.specs.declared.option.Option.the-variants.{Some, None}
 use Rattle.model.specs.declared.node.Triple.{Triple}

@@ -9,6 +9,7 @@ use Rattle.std.specs.declared.option.Option.the-variants.{Some, None}
 use Rattle.model.specs.declared.node.Triple.{Triple}
 use Rattle.model.specs.declared.point.Point.{Point}
 use Rattle.model.specs.declared.point.Primitive.{Primitive}
+use Rattle.model.specs.Bytes.{is-zero}
 use Rattle.model.specs.Families.{Meaning}
 use Rattle.family.specs.Reaching.{between}
 
@@ -22,7 +23,7 @@ is-box r = eqb (r .kind) 1 && is-size (r .sizes .x) && is-size (r .sizes .y) && 
 
 -- kind 2 with a radius and a height
 abbrev pub is-cylinder : Primitive → Bool
-is-cylinder r = eqb (r .kind) 2 && is-size (r .sizes .x) && is-size (r .sizes .y) && between (pos 0) (r .sizes .z) (pos 0)
+is-cylinder r = eqb (r .kind) 2 && is-size (r .sizes .x) && is-size (r .sizes .y) && is-zero (r .sizes .z)
 
 -- a coordinate from 0 to a length, over the divisor w
 abbrev pub along : ℤ → ℤ → ℤ → Bool

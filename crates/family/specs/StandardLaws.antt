@@ -1,7 +1,7 @@
 -- The standard family keeps the laws of a family. Assumes nothing.
 use mathlib.Core.Path.{_≡_, refl, sym, _∙_, ap, subst}
 use mathlib.Core.Bool.{Bool, true, false, cond, _&&_}
-use mathlib.Core.Logic.{_⊎_, inl, inr}
+use mathlib.Core.Logic.{inl, inr}
 use Prim.Native.Nat.{ℕ, zero, suc, _<_}
 use native.Mathlib.Omega.{arith}
 use borrow.Author.Differences.{ints}
@@ -14,8 +14,7 @@ use Rattle.std.specs.declared.option.Option.the-variants.{Some, None}
 use Rattle.model.specs.declared.node.Triple.{Triple}
 use Rattle.model.specs.declared.point.Point.{Point}
 use Rattle.model.specs.declared.point.Primitive.{Primitive}
-use Rattle.model.specs.Families.{Laws, Absorbs, No-zero, times, rescaled}
-use Rattle.family.specs.Reaching.{between}
+use Rattle.model.specs.Families.{Laws, Absorbs, times, rescaled}
 use Rattle.family.specs.Standard.{standard, is-size, is-box, is-cylinder, in-box, in-cylinder, holds, absorbed-by, when, larger-box, larger-cylinder, box-absorbed, cylinder-absorbed}
 use Rattle.family.specs.Scaled.{factors, natural, never}
 use Rattle.family.specs.BoxLaws.{box-place, box-points}
@@ -88,7 +87,7 @@ cylinder-case r f q b cy e =
     let same = eqb-true (natAbs (f .x)) (natAbs (f .y)) (round .0) in
     let hz : pos 0 <ℤ f .z = omega (arith, ints, round .1) in
     let n = natural (f .z) hz in
-    let p1 = and-parts (eqb (big .kind) 2 && is-size (big .sizes .x) && is-size (big .sizes .y)) (between (pos 0) (pos 0) (pos 0)) (tests .1) in
+    let p1 = and-parts (eqb (big .kind) 2 && is-size (big .sizes .x) && is-size (big .sizes .y)) true (tests .1) in
     let p2 = and-parts (eqb (big .kind) 2 && is-size (big .sizes .x)) (is-size (big .sizes .y)) (p1 .0) in
     let p3 = and-parts (eqb (big .kind) 2) (is-size (big .sizes .x)) (p2 .0) in
     let p4 = and-parts (leZ (pos 1) (big .sizes .x)) (leZ (big .sizes .x) (pos 1000000)) (p3 .1) in

@@ -3,11 +3,11 @@ ghost use mathlib.Core.Path.{_≡_};
 ghost use Rattle.std.specs.Options.{mapped};
 ghost use Rattle.family.specs.Beside.{beside, own, of-kind};
 ghost use Rattle.family.specs.BesideLaws.{beside-laws};
+use crate::family::Family;
+use crate::family::Reach;
 use model::Point;
 use model::Primitive;
 use model::Triple;
-use crate::family::Family;
-use crate::family::Reach;
 
 /// Kind 2k is the first's kind k, and kind 2k+1 the second's.
 #[derive(Drop)]
@@ -20,7 +20,10 @@ pub struct Beside<F, G> {
 fn own(primitive: &Primitive) -> Primitive
     ensures { λ r. ⌜ r ≡ own (now (primitive .entry)) ⌝ }
 {
-    Primitive { kind: primitive.kind / 2, sizes: primitive.sizes }
+    Primitive {
+        kind: primitive.kind / 2,
+        sizes: primitive.sizes,
+    }
 }
 
 fn of_kind(kind: u16, absorbed: Option<Primitive>) -> Option<Primitive>

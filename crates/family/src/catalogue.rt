@@ -5,21 +5,21 @@ ghost use denote.Ref.{now as at};
 ghost use Rattle.family.specs.Reaching.{in-reach};
 ghost use Rattle.family.specs.Catalogue.{catalogue, in-range, fits, is-coefficient, has-profile, every, no-sizes, listed, half-space, admits};
 ghost use Rattle.family.specs.CatalogueLaws.{catalogue-laws};
-use model::Point;
-use model::Primitive;
-use model::Triple;
+use crate::exact::is_zero;
 use crate::exact::product;
 use crate::exact::within;
 use crate::family::Family;
 use crate::family::Reach;
+use crate::family::in_reach;
 use crate::family::is_near;
+use model::Point;
+use model::Primitive;
+use model::Triple;
 
 const STEEPEST: i64 = 1_000;
 
-const FARTHEST: i64 = 1_000_000_000;
-
 /// The points with p·x + q·y + r·z at most d·w.
-#[derive(Clone, Copy, PartialEq, Eq)]
+#[derive(Clone, Copy)]
 pub struct Row {
     pub profile: u16,
     pub p: i64,
@@ -42,10 +42,7 @@ fn is_coefficient(value: i64) -> bool
 fn in_range(row: &Row) -> bool
     ensures { λ r. ⌜ r ≡ in-range (now (row .entry)) ⌝ }
 {
-    is_coefficient(row.p)
-        && is_coefficient(row.q)
-        && is_coefficient(row.r)
-        && within(-FARTHEST, row.d, FARTHEST)
+    is_coefficient(row.p) && is_coefficient(row.q) && is_coefficient(row.r) && is_near(row.d)
 }
 
 fn row_fits(row: &Row, kind: u16) -> bool
@@ -80,7 +77,7 @@ fn has_no_sizes(primitive: &Primitive) -> bool
     ensures { λ r. ⌜ r ≡ no-sizes (now (primitive .entry)) ⌝ }
 {
     let Triple { x, y, z } = primitive.sizes;
-    within(0, x, 0) && within(0, y, 0) && within(0, z, 0)
+    is_zero(x) && is_zero(y) && is_zero(z)
 }
 
 fn is_listed(rows: &[Row], primitive: &Primitive) -> bool
@@ -128,7 +125,7 @@ pub impl<'a> Family for Catalogue<'a> as CatalogueFamily {
     }
 
     fn contains(&self, primitive: &Primitive, at: &Point) -> Reach {
-        if !is_near(at) {
+        if !in_reach(at) {
             return Reach::OutOfReach;
         }
         if is_listed(self.rows, primitive) && all_admit(self.rows, primitive.kind, at) {

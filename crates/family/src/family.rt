@@ -1,7 +1,7 @@
 // What every family of primitives answers.
 ghost use mathlib.Core.Path.{_≡_};
 ghost use Rattle.model.specs.Families.{Meaning, Laws};
-ghost use Rattle.family.specs.Reaching.{reach, in-reach};
+ghost use Rattle.family.specs.Reaching.{near, in-reach, reach};
 use crate::exact::within;
 use model::Point;
 use model::Primitive;
@@ -37,11 +37,14 @@ pub trait Family {
         ensures { λ r. ⌜ r ≡ meaning (now (self .entry)) .absorbed (now (primitive .entry)) factors ⌝ };
 }
 
-pub(crate) fn is_near(at: &Point) -> bool
+pub(crate) fn is_near(coordinate: i64) -> bool
+    ensures { λ r. ⌜ r ≡ near coordinate ⌝ }
+{
+    within(-FARTHEST, coordinate, FARTHEST)
+}
+
+pub(crate) fn in_reach(at: &Point) -> bool
     ensures { λ r. ⌜ r ≡ in-reach (now (at .entry)) ⌝ }
 {
-    within(-FARTHEST, at.x, FARTHEST)
-        && within(-FARTHEST, at.y, FARTHEST)
-        && within(-FARTHEST, at.z, FARTHEST)
-        && within(1, at.w, FINEST)
+    is_near(at.x) && is_near(at.y) && is_near(at.z) && within(1, at.w, FINEST)
 }

@@ -12,5 +12,6 @@ pub use catalogue::CatalogueFamily;
 pub use catalogue::Row;
 pub use family::Family;
 pub use family::Reach;
+pub use family::ReachPartialEq;
 pub use standard::Standard;
 pub use standard::StandardFamily;

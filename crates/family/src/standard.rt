@@ -6,11 +6,12 @@ ghost use lib.Signed.{_≤ℤ_, ltZ};
 ghost use Rattle.family.specs.Reaching.{in-reach, near};
 ghost use Rattle.family.specs.Standard.{standard, is-size, is-box, is-cylinder, along, over-base, in-box, in-circle, in-cylinder, when, joint, box-absorbed, cylinder-absorbed};
 ghost use Rattle.family.specs.StandardLaws.{standard-laws};
+use crate::exact::is_zero;
 use crate::exact::product;
 use crate::exact::within;
 use crate::family::Family;
 use crate::family::Reach;
-use crate::family::is_near;
+use crate::family::in_reach;
 use model::Point;
 use model::Primitive;
 use model::Triple;
@@ -37,7 +38,7 @@ fn is_cylinder(primitive: &Primitive) -> bool
     ensures { λ r. ⌜ r ≡ is-cylinder (now (primitive .entry)) ⌝ }
 {
     let Triple { x, y, z } = primitive.sizes;
-    primitive.kind == 2 && is_size(x) && is_size(y) && within(0, z, 0)
+    primitive.kind == 2 && is_size(x) && is_size(y) && is_zero(z)
 }
 
 fn is_along(value: i64, length: i64, w: i64) -> bool
@@ -150,7 +151,7 @@ pub impl Family for Standard as StandardFamily {
     }
 
     fn contains(&self, primitive: &Primitive, at: &Point) -> Reach {
-        if !is_near(at) {
+        if !in_reach(at) {
             return Reach::OutOfReach;
         }
         let held = if is_box(primitive) {

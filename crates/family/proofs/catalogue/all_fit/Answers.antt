@@ -1,4 +1,4 @@
-use mathlib.Core.Path.{_≡_, sym, _∙_, ap}
+use mathlib.Core.Path.{sym, _∙_, ap}
 use lib.Seq.{take-all}
 use Rattle.family.specs.Catalogue.{every, fits}
 use Rattle.family.proofs.Rows.{every-more, every-fails}
