@@ -26,6 +26,7 @@ came-from f (Some x) y e = (x, (refl, cc))
 pub outer-kind : (side : ℕ) (r q : Primitive) → r .kind % 2 ≡ side → q .kind ≡ r .kind / 2 → 2 * q .kind + side ≡ r .kind
 outer-kind side r q e k = omega arith
 
+-- the outer record's own is the record
 own-outer : (side : ℕ) (q : Primitive) → side < 2 → own (outer side q) ≡ q
 own-outer side q h = ap (λ (k : ℕ). of-kind k q) (halved (q .kind))
   where
@@ -33,6 +34,7 @@ own-outer side q h = ap (λ (k : ℕ). of-kind k q) (halved (q .kind))
     halved k = omega arith
 
 module _ (m n : Meaning) (lm : Laws m) (ln : Laws n) where
+  -- an illegal record contains nothing
   empty : (r : Primitive) (p : Point) → beside m n .legal r ≡ false → beside m n .contains r p ≡ false
   empty r p e =
       elim (cases-bool (is-first r)) [
@@ -40,9 +42,11 @@ module _ (m n : Meaning) (lm : Laws m) (ln : Laws n) where
         | inr b ↦ cond-false (is-first r) _ _ b ∙ ln .illegal-empty (own r) p (sym (cond-false (is-first r) (m .legal (own r)) (n .legal (own r)) b) ∙ e)
       ]
 
+  -- a place is contained or not however it is written
   place : (r : Primitive) (p : Point) (k : ℤ) → pos 0 <ℤ p .w → pos 0 <ℤ k → beside m n .contains r (times k p) ≡ beside m n .contains r p
   place r p k w h = simp (lm .same-place (own r) p k w h, ln .same-place (own r) p k w h)
 
+  -- the first family absorbs
   first-case : (r : Primitive) (f : Triple) (q : Primitive) → is-first r ≡ true → mapped (outer 0) (m .absorbed (own r) f) ≡ Some q → Absorbs (beside m n) r f q
   first-case r f q b e =
       let from = came-from (outer 0) (m .absorbed (own r) f) q e in
@@ -59,6 +63,7 @@ module _ (m n : Meaning) (lm : Laws m) (ln : Laws n) where
         same-points = λ p h. cond-true (is-first (outer 0 x)) _ _ b2 ∙ ap (λ (y : Primitive). m .contains y p) back ∙ law .same-points p h ∙ sym (cond-true (is-first r) _ _ b);
       })
 
+  -- the second does
   second-case : (r : Primitive) (f : Triple) (q : Primitive) → is-first r ≡ false → mapped (outer 1) (n .absorbed (own r) f) ≡ Some q → Absorbs (beside m n) r f q
   second-case r f q b e =
       let from = came-from (outer 1) (n .absorbed (own r) f) q e in
@@ -77,6 +82,7 @@ module _ (m n : Meaning) (lm : Laws m) (ln : Laws n) where
         same-points = λ p h. cond-false (is-first (outer 1 x)) _ _ b2 ∙ ap (λ (y : Primitive). n .contains y p) back ∙ law .same-points p h ∙ sym (cond-false (is-first r) _ _ b);
       })
 
+  -- either
   absorbing : (r : Primitive) (f : Triple) (q : Primitive) → beside m n .absorbed r f ≡ Some q → Absorbs (beside m n) r f q
   absorbing r f q e =
       let one : Option Primitive = mapped (outer 0) (m .absorbed (own r) f) in
@@ -86,5 +92,6 @@ module _ (m n : Meaning) (lm : Laws m) (ln : Laws n) where
         | inr b ↦ second-case r f q b (sym (cond-false (is-first r) one two b) ∙ e)
       ]
 
+  -- the two are a lawful family
   pub beside-laws : Laws (beside m n)
   beside-laws = record { illegal-empty = empty; absorbs = absorbing; same-place = place }

@@ -21,6 +21,7 @@ box-place r p n h =
     (between-times n h (p .y) (r .sizes .y *ℤ p .w) _ _ refl (*ℤ-left-comm (r .sizes .y) (pos n) (p .w))))
     (between-times n h (p .z) (r .sizes .z *ℤ p .w) _ _ refl (*ℤ-left-comm (r .sizes .z) (pos n) (p .w)))
 
+-- a coordinate and the faces, with the common factor in front
 turn : (x t u : ℤ) → x *ℤ t *ℤ u ≡ (t *ℤ u) *ℤ x
 turn x t u = simp ring
 
@@ -33,6 +34,7 @@ face-y a w s t u = simp ring
 face-z : (a w s t u : ℤ) → a *ℤ (w *ℤ s *ℤ t *ℤ u) ≡ (s *ℤ t) *ℤ ((a *ℤ u) *ℤ w)
 face-z a w s t u = simp ring
 
+-- the points of the larger box, by natural factors
 natural-points : (r : Primitive) (s t u : ℕ) → 0 < s → 0 < t → 0 < u → (p : Point)
     → in-box (larger-box r (factors (pos s) (pos t) (pos u))) p ≡ in-box r (rescaled (factors (pos s) (pos t) (pos u)) p)
 natural-points r s t u hs ht hu p =
@@ -41,7 +43,7 @@ natural-points r s t u hs ht hu p =
     (between-times (s * u) (mul-pos hs hu) (p .y) ((r .sizes .y *ℤ pos t) *ℤ p .w) _ _ (turn (p .y) (pos s) (pos u)) (face-y (r .sizes .y) (p .w) (pos s) (pos t) (pos u))))
     (between-times (s * t) (mul-pos hs ht) (p .z) ((r .sizes .z *ℤ pos u) *ℤ p .w) _ _ (turn (p .z) (pos s) (pos t)) (face-z (r .sizes .z) (p .w) (pos s) (pos t) (pos u))))
 
--- the larger box contains the points of the scaled one
+-- and by positive ones
 pub box-points : (r : Primitive) (s t u : ℤ) → pos 0 <ℤ s → pos 0 <ℤ t → pos 0 <ℤ u → (p : Point)
     → in-box (larger-box r (factors s t u)) p ≡ in-box r (rescaled (factors s t u) p)
 box-points r (pos s) (pos t) (pos u) hs ht hu p = natural-points r s t u (omega (arith, ints)) (omega (arith, ints)) (omega (arith, ints)) p

@@ -13,6 +13,7 @@ use Rattle.family.specs.Standard.{in-cylinder, larger-cylinder}
 use Rattle.family.specs.Ring.{ring, *ℤ-left-comm}
 use Rattle.family.specs.Scaled.{factors, le-times, between-times, and-same}
 
+-- squares, with the square of the common factor in front
 squares : (k x y : ℤ) → (k *ℤ x) *ℤ (k *ℤ x) +ℤ (k *ℤ y) *ℤ (k *ℤ y) ≡ (k *ℤ k) *ℤ (x *ℤ x +ℤ y *ℤ y)
 squares k x y = simp ring
 
@@ -26,6 +27,7 @@ cylinder-place r p n h =
     (le-times (n * n) (mul-pos h h) (p .x *ℤ p .x +ℤ p .y *ℤ p .y) ((r .sizes .x *ℤ p .w) *ℤ (r .sizes .x *ℤ p .w)) _ _ (squares (pos n) (p .x) (p .y)) (square (r .sizes .x) (pos n) (p .w)))
     (between-times n h (p .z) (r .sizes .y *ℤ p .w) _ _ refl (*ℤ-left-comm (r .sizes .y) (pos n) (p .w)))
 
+-- the radius and the height of the larger cylinder, with the common factor in front
 wide : (n u a w : ℤ) → (a *ℤ (n *ℤ n *ℤ u *ℤ w)) *ℤ (a *ℤ (n *ℤ n *ℤ u *ℤ w)) ≡ (n *ℤ u *ℤ (n *ℤ u)) *ℤ (((a *ℤ n) *ℤ w) *ℤ ((a *ℤ n) *ℤ w))
 wide n u a w = simp ring
 
@@ -51,6 +53,7 @@ from-squares r s t n u hn hp hu p v ex ey ez ew =
     (sym (and-same (le-times (n * u * (n * u)) (mul-pos nu nu) (p .x *ℤ p .x +ℤ p .y *ℤ p .y) (((r .sizes .x *ℤ pos n) *ℤ p .w) *ℤ ((r .sizes .x *ℤ pos n) *ℤ p .w)) _ _ sum aw)
     (between-times (n * n) (mul-pos hp hp) (p .z) ((r .sizes .y *ℤ pos u) *ℤ p .w) _ _ ez bw)))
 
+-- the square of a coordinate, the height and w under each choice of signs
 sq-plain : (x n u : ℤ) → (x *ℤ n *ℤ u) *ℤ (x *ℤ n *ℤ u) ≡ (n *ℤ u *ℤ (n *ℤ u)) *ℤ (x *ℤ x)
 sq-plain x n u = simp ring
 
@@ -87,6 +90,7 @@ w-right w n u = simp ring
 w-left : (w n u : ℤ) → negℤ (w *ℤ negℤ n *ℤ n *ℤ u) ≡ n *ℤ n *ℤ u *ℤ w
 w-left w n u = simp ring
 
+-- the sign of the factors' product
 odd-right : (n u : ℤ) → n *ℤ negℤ n *ℤ u ≡ negℤ (n *ℤ n *ℤ u)
 odd-right n u = simp ring
 

@@ -1,5 +1,5 @@
 -- The standard family: boxes and upright cylinders. Assumes nothing.
-use mathlib.Core.Bool.{Bool, true, false, cond, _&&_}
+use mathlib.Core.Bool.{Bool, false, cond, _&&_, _||_}
 use Prim.Native.Nat.{ℕ}
 use lib.Dec.{eqb}
 use lib.IntN.{ℤ, pos, natAbs, _+ℤ_, _*ℤ_}
@@ -82,4 +82,4 @@ joint k (Some a) (Some b) (Some c) = Some (record { kind = k; sizes = record { x
 
 -- the standard family
 abbrev pub standard : Meaning
-standard = record { legal = λ r. cond (is-box r) true (is-cylinder r); contains = holds; absorbed = absorbed-by }
+standard = record { legal = λ r. is-box r || is-cylinder r; contains = holds; absorbed = absorbed-by }

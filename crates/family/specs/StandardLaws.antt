@@ -1,6 +1,6 @@
 -- The standard family keeps the laws of a family. Assumes nothing.
 use mathlib.Core.Path.{_≡_, refl, sym, _∙_, ap, subst}
-use mathlib.Core.Bool.{Bool, true, false, cond, _&&_}
+use mathlib.Core.Bool.{Bool, true, false, cond, _&&_, _||_}
 use mathlib.Core.Logic.{inl, inr}
 use Prim.Native.Nat.{ℕ, zero, suc, _<_}
 use native.Mathlib.Omega.{arith}
@@ -8,7 +8,7 @@ use borrow.Author.Differences.{ints}
 use lib.IntN.{ℤ, pos, natAbs, _*ℤ_, *ℤ-zero}
 use lib.Dec.{eqb}
 use lib.Signed.{leZ, ltZ, _<ℤ_}
-use Rattle.std.proofs.shelf.Tests.{cases-bool, true≢false, false≢true, and-parts, eqb-true, cond-true, cond-false}
+use Rattle.std.proofs.shelf.Tests.{cases-bool, true≢false, false≢true, and-parts, eqb-true, or-left, or-right, cond-true, cond-false}
 use Rattle.std.specs.declared.option.Option.{Option}
 use Rattle.std.specs.declared.option.Option.the-variants.{Some, None}
 use Rattle.model.specs.declared.node.Triple.{Triple}
@@ -20,9 +20,11 @@ use Rattle.family.specs.Scaled.{factors, natural, never}
 use Rattle.family.specs.BoxLaws.{box-place, box-points}
 use Rattle.family.specs.CylinderLaws.{cylinder-place, cylinder-points}
 
+-- the same place, by a natural factor
 natural-place : (r : Primitive) (p : Point) (n : ℕ) → 0 < n → holds r (times (pos n) p) ≡ holds r p
 natural-place r p n h = rw (box-place r p n h, cylinder-place r p n h) refl
 
+-- and by any positive one
 place : (r : Primitive) (p : Point) (k : ℤ) → pos 0 <ℤ k → holds r (times k p) ≡ holds r p
 place r p k h =
     let n = natural k h in
@@ -32,7 +34,7 @@ place r p k h =
 empty : (r : Primitive) (p : Point) → standard .legal r ≡ false → holds r p ≡ false
 empty r p e = at (is-box r) (is-cylinder r) (in-box r p) (in-cylinder r p) e
   where
-    at : (a b x y : Bool) → cond a true b ≡ false → cond a x (cond b y false) ≡ false
+    at : (a b x y : Bool) → (a || b) ≡ false → cond a x (cond b y false) ≡ false
     at true b x y e = absurd (true≢false e)
     at false true x y e = absurd (true≢false e)
     at false false x y e = refl
@@ -45,6 +47,7 @@ when-some false x q e = let z : _≡_ {A = ℕ} 0 1 = cc in absurd (zero-one z)
     zero-one : _≡_ {A = ℕ} 0 1 → ⊥
     zero-one e = omega (arith, e)
 
+-- what a box contains, and what a cylinder does
 at-box : (r : Primitive) (p : Point) → is-box r ≡ true → holds r p ≡ in-box r p
 at-box r p e = cond-true (is-box r) (in-box r p) (cond (is-cylinder r) (in-cylinder r p) false) e
 
@@ -55,6 +58,7 @@ at-cylinder r p e f = cond-false (is-box r) (in-box r p) (cond (is-cylinder r) (
 not-zero : (v : ℤ) → pos 0 <ℤ v → v ≡ pos 0 → ⊥
 not-zero v h e = omega (arith, ints)
 
+-- a box that absorbs
 box-case : (r : Primitive) (f : Triple) (q : Primitive) → is-box r ≡ true → box-absorbed r f ≡ Some q → Absorbs standard r f q
 box-case r f q b e =
     let big = larger-box r f in
@@ -67,9 +71,9 @@ box-case r f q b e =
     let hz : pos 0 <ℤ f .z = omega (arith, ints, xyz .1) in
     subst (λ (q : Primitive). Absorbs standard r f q) (sym (w .1))
     (record {
-      legal-before = cond-true (is-box r) true (is-cylinder r) b;
+      legal-before = or-left (is-box r) (is-cylinder r) b;
       no-zero = record { x = not-zero (f .x) hx; y = not-zero (f .y) hy; z = not-zero (f .z) hz };
-      legal-after = cond-true (is-box big) true (is-cylinder big) (tests .1);
+      legal-after = or-left (is-box big) (is-cylinder big) (tests .1);
       same-kind = refl;
       same-points = λ p h. at-box big p (tests .1) ∙ box-points r (f .x) (f .y) (f .z) hx hy hz p ∙ sym (at-box r (rescaled f p) b);
     })
@@ -78,6 +82,7 @@ box-case r f q b e =
 no-box : (k : ℕ) (a b c : Bool) → eqb k 2 ≡ true → (eqb k 1 && a && b && c) ≡ false
 no-box k a b c e = subst (λ (k : ℕ). (eqb k 1 && a && b && c) ≡ false) (sym (eqb-true k 2 e)) refl
 
+-- a cylinder that absorbs
 cylinder-case : (r : Primitive) (f : Triple) (q : Primitive) → is-box r ≡ false → is-cylinder r ≡ true → cylinder-absorbed r f ≡ Some q → Absorbs standard r f q
 cylinder-case r f q b cy e =
     let big = larger-cylinder r f in
@@ -99,9 +104,9 @@ cylinder-case r f q b cy e =
     (cylinder-points r (f .x) (f .y) (n .0) same hx (n .1 .1) p) in
     subst (λ (q : Primitive). Absorbs standard r f q) (sym (w .1))
     (record {
-      legal-before = cond-false (is-box r) true (is-cylinder r) b ∙ cy;
+      legal-before = or-right (is-box r) (is-cylinder r) cy;
       no-zero = record { x = sized (f .x) hx; y = sized (f .y) hy; z = not-zero (f .z) hz };
-      legal-after = cond-false (is-box big) true (is-cylinder big) nobox ∙ tests .1;
+      legal-after = or-right (is-box big) (is-cylinder big) (tests .1);
       same-kind = refl;
       same-points = λ p h. at-cylinder big p nobox (tests .1) ∙ points p ∙ sym (at-cylinder r (rescaled f p) b cy);
     })
@@ -113,6 +118,7 @@ cylinder-case r f q b cy e =
     sized : (v : ℤ) → 0 < natAbs v → v ≡ pos 0 → ⊥
     sized v h e = let z : 0 < natAbs (pos 0) = subst (λ (v : ℤ). 0 < natAbs v) e h in omega arith
 
+-- either
 absorbing : (r : Primitive) (f : Triple) (q : Primitive) → absorbed-by r f ≡ Some q → Absorbs standard r f q
 absorbing r f q e =
     let rest : Option Primitive = cond (is-cylinder r) (cylinder-absorbed r f) None in
@@ -126,5 +132,6 @@ absorbing r f q e =
           ]
     ]
 
+-- the standard family is lawful
 pub standard-laws : Laws standard
 standard-laws = record { illegal-empty = empty; absorbs = absorbing; same-place = λ r p k w h. place r p k h }
