@@ -15,3 +15,4 @@ pub mod Reports
 pub mod Readings
 pub mod Texts
 pub mod Written
+pub mod Families

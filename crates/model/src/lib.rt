@@ -1,9 +1,10 @@
-// Caddy programs as a table of nodes, the words of their texts, and what a refused text is told.
+// Caddy programs as a table of nodes, the words of their texts, what a refused text is told, and points.
 mod depth;
 mod extent;
 mod held;
 mod limits;
 mod node;
+mod point;
 mod refusal;
 mod report;
 mod same;
@@ -18,6 +19,8 @@ pub use node::Node;
 pub use node::Operator;
 pub use node::Placement;
 pub use node::Triple;
+pub use point::Point;
+pub use point::Primitive;
 pub use refusal::Layer;
 pub use refusal::Refusal;
 pub use refusal::Report;

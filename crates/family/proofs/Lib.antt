@@ -1,0 +1,4 @@
+pub mod Fits
+pub mod Joint
+pub mod Rows
+pub mod Raised

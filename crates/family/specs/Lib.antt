@@ -1,0 +1,11 @@
+pub mod Reaching
+pub mod Standard
+pub mod Ring
+pub mod Scaled
+pub mod BoxLaws
+pub mod CylinderLaws
+pub mod StandardLaws
+pub mod Catalogue
+pub mod CatalogueLaws
+pub mod Beside
+pub mod BesideLaws
