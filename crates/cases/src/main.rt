@@ -1,4 +1,6 @@
 // Reads a table of texts, one to a line, and prints what becomes of each.
+#![tactic(auto)]
+
 mod make;
 mod tell;
 

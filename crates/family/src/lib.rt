@@ -1,4 +1,6 @@
 // Families of primitives: boxes and cylinders, profiles out of a table, and two families side by side.
+#![tactic(auto)]
+
 mod beside;
 mod catalogue;
 mod exact;

@@ -1,4 +1,6 @@
 // Caddy programs as a table of nodes, the words of their texts, what a refused text is told, and points.
+#![tactic(auto)]
+
 mod depth;
 mod extent;
 mod held;

@@ -1,4 +1,6 @@
 // Whether a part contains a point, or that the point gets out of reach on its way to a primitive.
+#![tactic(auto)]
+
 mod answer;
 mod exact;
 mod item;

@@ -1,4 +1,6 @@
 // Programs as parts: what is told of each term, whether a program is legal, and the part that a text says.
+#![tactic(auto)]
+
 mod bounds;
 mod fault;
 mod judge;

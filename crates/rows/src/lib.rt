@@ -1,4 +1,6 @@
 // The rows of a catalogue, read from a text: one row a line.
+#![tactic(auto)]
+
 mod byte;
 mod line;
 mod number;

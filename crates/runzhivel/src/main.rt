@@ -1,4 +1,6 @@
 // The part checker: reads a part file, says what it is, and writes it back in one spelling.
+#![tactic(auto)]
+
 mod command;
 mod excerpt;
 mod expected;

@@ -1,4 +1,6 @@
 // Caddy texts, read into a table of nodes.
+#![tactic(auto)]
+
 mod byte;
 mod expect;
 mod form;

@@ -1,4 +1,6 @@
 // Writes the program that a table holds, or its unrolling, into a caller's buffer.
+#![tactic(auto)]
+
 mod decimal;
 mod element;
 mod flat;
