@@ -76,7 +76,7 @@ module _ {X Y : Type 0} (H : Shape X) (K : Shape Y) (R : X → Y → Type 0) (c 
   past_r ss (suc n) d e p = past_r ss n d.1 e.1 p.1
 
   idle_r : (k : Kind) → ValR k (idle H k) (idle K k)
-  idle_r solid = c.on-empty
+  idle_r solid = c.on_empty
   idle_r vector = refl
 
   sorted_r : (k : Kind) (p q : List ℕ) (l : List (Val X k)) (m : List (Val Y k)) → p ≡ q → Each (ValR k) l m → Each (ValR k) (sorted (idle H k) p l) (sorted (idle K k) q m)
@@ -88,13 +88,13 @@ module _ {X Y : Type 0} (H : Shape X) (K : Shape Y) (R : X → Y → Type 0) (c 
       subst P e (each_from (ValR k) (λ j. get_or l (place_of j p) (idle H k)) (λ j. get_or m (place_of j p) (idle K k)) (λ j. each_at (ValR k) l m (idle H k) (idle K k) r (idle_r k) (place_of j p)) 0 (length p))
 
   union_r : (l : List X) (m : List Y) → Each R l m → R (union_of H l) (union_of K m)
-  union_r [] [] p = c.on-empty
+  union_r [] [] p = c.on_empty
   union_r [] (y ∷ m) p = absurd p
   union_r (x ∷ l) [] p = absurd p
   union_r (x ∷ []) (y ∷ []) p = p.0
   union_r (x ∷ []) (y ∷ y' ∷ m) p = absurd p.1
   union_r (x ∷ x' ∷ l) (y ∷ []) p = absurd p.1
-  union_r (x ∷ x' ∷ l) (y ∷ y' ∷ m) p = c.on-join Union x (union_of H (x' ∷ l)) y (union_of K (y' ∷ m)) p.0 (union_r (x' ∷ l) (y' ∷ m) p.1)
+  union_r (x ∷ x' ∷ l) (y ∷ y' ∷ m) p = c.on_join Union x (union_of H (x' ∷ l)) y (union_of K (y' ∷ m)) p.0 (union_r (x' ∷ l) (y' ∷ m) p.1)
 
   zip_r : (t : Placement) (vs ws : List Triple) (l : List X) (m : List Y) → Each (λ v w. v ≡ w) vs ws → Each R l m → Each R (zip_with (H.place t) vs l) (zip_with (K.place t) ws m)
   zip_r t [] [] l m p q = tt
@@ -105,13 +105,13 @@ module _ {X Y : Type 0} (H : Shape X) (K : Shape Y) (R : X → Y → Type 0) (c 
   zip_r t (v ∷ vs) (w ∷ ws) (x ∷ l) [] p q = absurd q
   zip_r t (v ∷ vs) (w ∷ ws) (x ∷ l) (y ∷ m) p q =
       let P : Triple → Type 0 = λ u. R (H.place t v x) (K.place t u y) in
-      (subst P p.0 (c.on-place t v x y q.0), zip_r t vs ws l m p.1 q.1)
+      (subst P p.0 (c.on_place t v x y q.0), zip_r t vs ws l m p.1 q.1)
 
   head_r : {s : Sort} (h : Head s) (d : ℕ → Dens X (arity h)) (e : ℕ → Dens Y (arity h)) → ((j : ℕ) → DensR (arity h) (d j) (e j)) → (i : ℕ) → DenR s (made_of H h d i) (made_of K h e i)
-  head_r empty d e p i = c.on-empty
-  head_r (prim k v) d e p i = c.on-prim k (at i v)
-  head_r (place t v) d e p i = c.on-place t (at i v) (d i).0 (e i).0 (p i).0
-  head_r (join o) d e p i = c.on-join o (d i).0 (d i).1.0 (e i).0 (e i).1.0 (p i).0 (p i).1.0
+  head_r empty d e p i = c.on_empty
+  head_r (prim k v) d e p i = c.on_prim k (at i v)
+  head_r (place t v) d e p i = c.on_place t (at i v) (d i).0 (e i).0 (p i).0
+  head_r (join o) d e p i = c.on_join o (d i).0 (d i).1.0 (e i).0 (e i).1.0 (p i).0 (p i).1.0
   head_r fold d e p i = union_r (d i).0 (e i).0 (p i).0
   head_r (vec v) d e p i = refl
   head_r (list {k} n) d e p i = row_r k n (d i) (e i) (p i)

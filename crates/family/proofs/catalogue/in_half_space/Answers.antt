@@ -4,8 +4,8 @@ use Rattle.std.proofs.lemmas.Int.{to_z-of_z}
 use Rattle.family.proofs.Fits.{sums_fit}
 use Rattle.family.proofs.catalogue.in_half_space.Goals as goal
 
-pub overflow-add-result : goal.overflow-add-result
-overflow-add-result c =
+pub overflow_add-result : goal.overflow_add-result
+overflow_add-result c =
     let fx : SFits w64 c.args.at.now.x = search rules in
     let fy : SFits w64 c.args.at.now.y = search rules in
     let fp : SFits w64 c.args.row.now.p = search rules in
@@ -17,8 +17,8 @@ overflow-add-result c =
     let b : c.product-second.result ≡ c.args.row.now.q *ℤ c.args.at.now.y = simp to_z-of_z at c.product-second.ensures in
     simp to_z-of_z (rw (a, b) (sums_fit c.args.row.now.p c.args.row.now.q c.args.row.now.r c.args.at.now fp fq fr c.requires).two)
 
-pub overflow-add-result-2 : goal.overflow-add-result-2
-overflow-add-result-2 c =
+pub overflow_add-result-2 : goal.overflow_add-result-2
+overflow_add-result-2 c =
     let fx : SFits w64 c.args.at.now.x = search rules in
     let fy : SFits w64 c.args.at.now.y = search rules in
     let fz : SFits w64 c.args.at.now.z = search rules in

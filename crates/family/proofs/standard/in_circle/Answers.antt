@@ -4,8 +4,8 @@ use Rattle.std.proofs.lemmas.Int.{to_z-of_z}
 use Rattle.family.proofs.Fits.{squares_fit}
 use Rattle.family.proofs.standard.in_circle.Goals as goal
 
-pub overflow-add-result : goal.overflow-add-result
-overflow-add-result c =
+pub overflow_add-result : goal.overflow_add-result
+overflow_add-result c =
     let fx : SFits w128 c.product.result = search rules in
     let fy : SFits w128 c.product-2.result = search rules in
     let gx : SFits w64 c.args.x = c.ranges.x in

@@ -12,9 +12,9 @@ returns c =
     let fs : SFits w64 c.args.factors.x = search rules in
     let ft : SFits w64 c.args.factors.y = search rules in
     let fu : SFits w64 c.args.factors.z = search rules in
-    let n : c.unsigned-abs-across.result ≡ nat_abs c.args.factors.x = simp to_z-of_z at c.unsigned-abs-across.ensures.value in
-    let m : c.unsigned-abs.result ≡ nat_abs c.args.factors.y = simp to_z-of_z at c.unsigned-abs.ensures.value in
-    let same : nat_abs c.args.factors.x ≡ nat_abs c.args.factors.y = sym n ∙ c.if-across-unsigned-abs.false ∙ m in
+    let n : c.unsigned_abs-across.result ≡ nat_abs c.args.factors.x = simp to_z-of_z at c.unsigned_abs-across.ensures.value in
+    let m : c.unsigned_abs.result ≡ nat_abs c.args.factors.y = simp to_z-of_z at c.unsigned_abs.ensures.value in
+    let same : nat_abs c.args.factors.x ≡ nat_abs c.args.factors.y = sym n ∙ c.if-across-unsigned_abs.false ∙ m in
     let x = simp (to_z-of_z, n) at c.enlarged.ensures in
     let y = simp to_z-of_z at c.stretched.ensures in
     c.joined.ensures ∙ simp (x, y) (cylinder_joint c.args.primitive.now c.args.factors c.requires (eq-eqb (nat_abs c.args.factors.x) (nat_abs c.args.factors.y) same))

@@ -6,18 +6,18 @@ use Rattle.model.specs.Depths.{PartsExtent}
 use Rattle.model.proofs.Extents.{term_extent, parts_none, parts_more}
 use Rattle.model.proofs.extent.+parts_extent_term_extent.Goals as goal
 
-pub parts-extent-returns-then-count-eq0 : goal.parts-extent-returns-then-count-eq0
-parts-extent-returns-then-count-eq0 t c =
+pub parts_extent-returns-then-count-eq0 : goal.parts_extent-returns-then-count-eq0
+parts_extent-returns-then-count-eq0 t c =
     let why : (c.args.count ≡ 0) ⊎ (length c.args.nodes.now ≤ c.args.place) = search rules in
     record { within = search rules; extent = parts_none c.args.nodes.now c.args.place c.args.count why }
 
-pub parts-extent-returns : goal.parts-extent-returns
-parts-extent-returns t c =
-    let p = parts_more c.args.nodes.now c.args.place c.args.count c.term-extent-first.result c.parts-extent-rest.result (λ z. omega arith) c.term-extent-first.ensures.extent c.parts-extent-rest.ensures.extent in
-    record { within = search rules; extent = let P : ℕ → Type 0 = λ d. PartsExtent c.args.nodes.now c.args.place c.args.count (record { end = c.parts-extent-rest.result.end; depth = d }) in subst P (sym c.max.ensures) p }
+pub parts_extent-returns : goal.parts_extent-returns
+parts_extent-returns t c =
+    let p = parts_more c.args.nodes.now c.args.place c.args.count c.term_extent-first.result c.parts_extent-rest.result (λ z. omega arith) c.term_extent-first.ensures.extent c.parts_extent-rest.ensures.extent in
+    record { within = search rules; extent = let P : ℕ → Type 0 = λ d. PartsExtent c.args.nodes.now c.args.place c.args.count (record { end = c.parts_extent-rest.result.end; depth = d }) in subst P (sym c.max.ensures) p }
 
-pub term-extent-returns : goal.term-extent-returns
-term-extent-returns t c =
+pub term_extent-returns : goal.term_extent-returns
+term_extent-returns t c =
     let short : length c.args.nodes.now < 2 ^ 63 = search rules in
     let here = drop_more c.args.nodes.now c.args.place Empty c.requires in
-    record { within = search rules; extent = term_extent c.args.nodes.now c.args.place (get_or c.args.nodes.now c.args.place Empty) _ c.parts-extent-parts.result short here c.parts.ensures c.parts-extent-parts.ensures.extent }
+    record { within = search rules; extent = term_extent c.args.nodes.now c.args.place (get_or c.args.nodes.now c.args.place Empty) _ c.parts_extent-parts.result short here c.parts.ensures c.parts_extent-parts.ensures.extent }

@@ -13,4 +13,4 @@ returns c =
     let fx : SFits w64 c.args.at.x = search rules in
     let fy : SFits w64 c.args.at.y = search rules in
     let fz : SFits w64 c.args.at.z = search rules in
-    c.some-beyond.ensures ∙ (λ i. beyond 1000000 (passed c.args.at.x fx i) || (beyond 1000000 (passed c.args.at.y fy i) || beyond 1000000 (passed c.args.at.z fz i)))
+    c.some_beyond.ensures ∙ (λ i. beyond 1000000 (passed c.args.at.x fx i) || (beyond 1000000 (passed c.args.at.y fy i) || beyond 1000000 (passed c.args.at.z fz i)))

@@ -14,13 +14,13 @@ use Rattle.probe.specs.Walking.{Ready, said, asked, verdict}
 use Rattle.probe.proofs.Parts.{laid_part, ready_part, near_point, answers}
 use Rattle.probe.proofs.answer.probe.Goals as goal
 
-pub returns-then-is-far : goal.returns-then-is-far
+pub returns-then-is_far : goal.returns-then-is_far
 unfolding answer
-returns-then-is-far g c =
+returns-then-is_far g c =
     let m = g.F.Family.meaning c.args.family.now in
     let e = unroll (held c.args.part.now.layout.table) in
     let p = point c.args.at in
-    ap (λ (b : Bool). cond b (Err Far) (cond (strays e p) (Err OutOfReach) (Ok (contains m e p)))) c.if-is-far.ensures
+    ap (λ (b : Bool). cond b (Err Far) (cond (strays e p) (Err OutOfReach) (Ok (contains m e p)))) c.if-is_far.ensures
 
 -- the point that the walk is given
 point_is : (at : Triple) → SFits w64 at.x → SFits w64 at.y → SFits w64 at.z
@@ -34,15 +34,15 @@ walk-requires g c =
     let fx : SFits w64 c.args.at.x = search rules in
     let fy : SFits w64 c.args.at.y = search rules in
     let fz : SFits w64 c.args.at.z = search rules in
-    let vn = c.as-slice-nodes.ensures.value in
-    let vm = c.as-slice-measures.ensures.value in
+    let vn = c.as_slice-nodes.ensures.value in
+    let vm = c.as_slice-measures.ensures.value in
     let P : List Measure → Type 0 = λ b. Laid (vec_items part.layout.table.nodes) b in
     let Q : Point → Type 0 = λ p. Ready (vec_items part.layout.table.nodes) (one solid) (record { node = 0; index = 0; spot = At p }) in
     record {
-      laid = subst (λ a. Laid a c.as-slice-measures.result.now) (sym vn) (subst P (sym vm) (laid_part part));
+      laid = subst (λ a. Laid a c.as_slice-measures.result.now) (sym vn) (subst P (sym vm) (laid_part part));
       room = c.args.stack.now.room;
       ready = subst (λ a. Ready a (one solid) (record { node = 0; index = 0; spot = At (record { x = to_z w64 (of_z w64 at.x); y = to_z w64 (of_z w64 at.y); z = to_z w64 (of_z w64 at.z); w = pos 1 }) })) (sym vn)
-          (subst Q (sym (point_is at fx fy fz)) (ready_part part (point at) (near_point at (sym c.if-is-far.ensures))));
+          (subst Q (sym (point_is at fx fy fz)) (ready_part part (point at) (near_point at (sym c.if-is_far.ensures))));
     }
 
 pub returns : goal.returns
@@ -53,6 +53,6 @@ returns g c =
     let fx : SFits w64 c.args.at.x = search rules in
     let fy : SFits w64 c.args.at.y = search rules in
     let fz : SFits w64 c.args.at.z = search rules in
-    let vn = c.as-slice-nodes.ensures.value in
+    let vn = c.as_slice-nodes.ensures.value in
     let p = point_is at fx fy fz in
-    c.walk.ensures.is ∙ (λ i. verdict (said (vn i) (asked m) (record { node = 0; index = 0; spot = At (p i) }))) ∙ answers part m at (sym c.if-is-far.ensures)
+    c.walk.ensures.is ∙ (λ i. verdict (said (vn i) (asked m) (record { node = 0; index = 0; spot = At (p i) }))) ∙ answers part m at (sym c.if-is_far.ensures)

@@ -4,15 +4,15 @@ use Rattle.std.proofs.lemmas.Int.{to_z-of_z, to_z_pos}
 use Rattle.probe.proofs.Bounds.{wide, step_fits, value_fits}
 use Rattle.probe.proofs.exact.value.Goals as goal
 
-pub overflow-mul-result : goal.overflow-mul-result
-overflow-mul-result c =
+pub overflow_mul-result : goal.overflow_mul-result
+overflow_mul-result c =
     let fs : SFits w64 c.args.slope = c.ranges.slope in
     let ws : SFits w128 c.args.slope = wide c.args.slope fs in
     let i : to_z w128 c.args.index ≡ pos c.args.index = to_z_pos w128 c.args.index (omega arith) in
     simp (to_z-of_z, i) (step_fits c.args.index c.args.slope c.requires fs)
 
-pub overflow-add-result : goal.overflow-add-result
-overflow-add-result c =
+pub overflow_add-result : goal.overflow_add-result
+overflow_add-result c =
     let fc : SFits w64 c.args.constant = c.ranges.constant in
     let fs : SFits w64 c.args.slope = c.ranges.slope in
     let wc : SFits w128 c.args.constant = wide c.args.constant fc in

@@ -20,16 +20,16 @@ nodes_told nodes ms laid κ place left h r =
     let t : (get_or ms place nothing).nodes ≡ size (term nodes (one κ) place) = ap (λ (u : Measure). u.nodes) (told nodes ms laid (one κ) place f.stands) in
     (omega (arith, t, ends nodes (one κ) place f.stands, laid.few), ap (λ n. place + n) t)
 
-pub offset-bounds-measures-place : goal.offset-bounds-measures-place
-offset-bounds-measures-place c =
+pub offset_bounds-measures-place : goal.offset_bounds-measures-place
+offset_bounds-measures-place c =
     let h = here c.args.nodes.now c.args.measures.now c.requires.laid c.loop-left.place c.loop-left.left c.loop-left-test.true c.loop-left.invariant.0 in search rules
 
 pub bounds-measures-place : goal.bounds-measures-place
 bounds-measures-place c =
     let h = here c.args.nodes.now c.args.measures.now c.requires.laid c.loop-left.place c.loop-left.left c.loop-left-test.true c.loop-left.invariant.0 in search rules
 
-pub overflow-add-place : goal.overflow-add-place
-overflow-add-place c =
+pub overflow_add-place : goal.overflow_add-place
+overflow_add-place c =
     let r = c.loop-left.invariant.0 in
     let n = (nodes_told c.args.nodes.now c.args.measures.now c.requires.laid r.0 c.loop-left.place c.loop-left.left c.loop-left-test.true r.1).0 in
     omega arith

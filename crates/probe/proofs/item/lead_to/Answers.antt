@@ -8,11 +8,11 @@ use Rattle.probe.proofs.Leads.{list_row, tab_few, led_list, led_repeat, led_tab,
 use Rattle.probe.proofs.Onwards.{here, natural_small, first_stands, left_on, right_on, left_led, right_led}
 use Rattle.probe.proofs.item.lead_to.Goals as goal
 
-pub overflow-add-inner : goal.overflow-add-inner
-overflow-add-inner c = let h = here _ _ c.requires.laid c.args.list c.args.k c.requires.sought in search rules
+pub overflow_add-inner : goal.overflow_add-inner
+overflow_add-inner c = let h = here _ _ c.requires.laid c.args.list c.args.k c.requires.sought in search rules
 
-pub offset-bounds-nodes-list : goal.offset-bounds-nodes-list
-offset-bounds-nodes-list c = let h = here _ _ c.requires.laid c.args.list c.args.k c.requires.sought in search rules
+pub offset_bounds-nodes-list : goal.offset_bounds-nodes-list
+offset_bounds-nodes-list c = let h = here _ _ c.requires.laid c.args.list c.args.k c.requires.sought in search rules
 
 pub bounds : goal.bounds
 bounds c = let h = here _ _ c.requires.laid c.args.list c.args.k c.requires.sought in search rules
@@ -34,8 +34,8 @@ returns-in-List c = λ κ s m. led_list c.args.nodes.now m κ c.args.list c.args
 pub returns-in-Repeat : goal.returns-in-Repeat
 returns-in-Repeat c = λ κ s m. led_repeat c.args.nodes.now m κ c.args.list c.args.k v.Empty s _ c.in-Repeat.is
 
-pub overflow-cast-result : goal.overflow-cast-result
-overflow-cast-result c = let s = c.requires.sought in
+pub overflow_cast-result : goal.overflow_cast-result
+overflow_cast-result c = let s = c.requires.sought in
     let f : SFits w64 c.in-Tabulate.-count = search rules in
     omega (arith, natural_small c.in-Tabulate.-count f, tab_few c.args.nodes.now s.0 c.args.list c.args.k v.Empty s.1 c.in-Tabulate.-count c.in-Tabulate.is)
 
@@ -45,16 +45,16 @@ returns-in-Tabulate c = λ κ s m.
     led_tab c.args.nodes.now m κ c.args.list c.args.k v.Empty s c.in-Tabulate.-count c.in-Tabulate.is
     (omega (arith, natural_small c.in-Tabulate.-count f, tab_few c.args.nodes.now κ c.args.list c.args.k v.Empty s c.in-Tabulate.-count c.in-Tabulate.is))
 
-pub offset-bounds-measures-inner : goal.offset-bounds-measures-inner
-offset-bounds-measures-inner c = let s = c.requires.sought in
+pub offset_bounds-measures-inner : goal.offset_bounds-measures-inner
+offset_bounds-measures-inner c = let s = c.requires.sought in
     let h = behind _ _ c.requires.laid (many s.0) (c.args.list.node + 1) (first_stands _ _ c.requires.laid s.0 c.args.list c.args.k s.1 c.in-Concat.is) in search rules
 
 pub bounds-measures-inner : goal.bounds-measures-inner
 bounds-measures-inner c = let s = c.requires.sought in
     (behind _ _ c.requires.laid (many s.0) (c.args.list.node + 1) (first_stands _ _ c.requires.laid s.0 c.args.list c.args.k s.1 c.in-Concat.is)).0
 
-pub overflow-add-right : goal.overflow-add-right
-overflow-add-right c = let s = c.requires.sought in
+pub overflow_add-right : goal.overflow_add-right
+overflow_add-right c = let s = c.requires.sought in
     let h = behind _ _ c.requires.laid (many s.0) (c.args.list.node + 1) (first_stands _ _ c.requires.laid s.0 c.args.list c.args.k s.1 c.in-Concat.is) in omega arith
 
 pub returns-then-k-left : goal.returns-then-k-left
@@ -78,5 +78,5 @@ returns-else-k-left c = λ κ s.
 pub returns-in-Map2 : goal.returns-in-Map2
 returns-in-Map2 c = λ κ s. c.in-Map2.is
 
-pub returns-in-default : goal.returns-in-default
-returns-in-default c = λ κ s m. let r = c.in-default in unlisted c.args.nodes.now κ c.args.list c.args.list c.args.k m v.Empty s r.not-List r.not-Repeat r.not-Tabulate r.not-Concat r.not-Map2
+pub returns-in_default : goal.returns-in_default
+returns-in_default c = λ κ s m. let r = c.in_default in unlisted c.args.nodes.now κ c.args.list c.args.list c.args.k m v.Empty s r.not-List r.not-Repeat r.not-Tabulate r.not-Concat r.not-Map2

@@ -15,8 +15,8 @@ use Rattle.probe.specs.Walking.{Ready, walking}
 use Rattle.probe.proofs.Terms.{inside, opened, node_is}
 use Rattle.probe.proofs.item.moved_by.Goals as goal
 
-pub offset-bounds-nodes-by : goal.offset-bounds-nodes-by
-offset-bounds-nodes-by c = let h = inside c.args.nodes.now c.args.by.node c.requires.by.stands in search rules
+pub offset_bounds-nodes-by : goal.offset_bounds-nodes-by
+offset_bounds-nodes-by c = let h = inside c.args.nodes.now c.args.by.node c.requires.by.stands in search rules
 
 pub bounds : goal.bounds
 bounds c = let h = inside c.args.nodes.now c.args.by.node c.requires.by.stands in search rules
@@ -43,5 +43,5 @@ returns-in-Vector c = record {
   near = c.moved.ensures.near;
 }
 
-pub returns-in-default : goal.returns-in-default
-returns-in-default c = absurd (other c.args.nodes.now c.args.by.node n.Empty c.requires.by.stands c.in-default.not-Vector)
+pub returns-in_default : goal.returns-in_default
+returns-in_default c = absurd (other c.args.nodes.now c.args.by.node n.Empty c.requires.by.stands c.in_default.not-Vector)

@@ -9,26 +9,26 @@ use Rattle.probe.proofs.item.paired.Goals as goal
 blank : Meaning
 blank = record { legal = λ r. false; contains = λ r p. false; absorbed = λ r f. None }
 
-pub overflow-add-vectors : goal.overflow-add-vectors
-overflow-add-vectors c = let h = here _ _ c.requires.laid c.args.list c.args.k (solid, c.requires.sought) in search rules
+pub overflow_add-vectors : goal.overflow_add-vectors
+overflow_add-vectors c = let h = here _ _ c.requires.laid c.args.list c.args.k (solid, c.requires.sought) in search rules
 
-pub vector-item-by-requires : goal.vector-item-by-requires
-vector-item-by-requires c = record { laid = c.requires.laid; sought = vectors _ _ c.requires.laid c.args.list c.args.k c.args.placement c.requires.sought c.requires.pair }
+pub vector_item-by-requires : goal.vector_item-by-requires
+vector_item-by-requires c = record { laid = c.requires.laid; sought = vectors _ _ c.requires.laid c.args.list c.args.k c.args.placement c.requires.sought c.requires.pair }
 
-pub offset-bounds-measures-vectors : goal.offset-bounds-measures-vectors
-offset-bounds-measures-vectors c =
+pub offset_bounds-measures-vectors : goal.offset_bounds-measures-vectors
+offset_bounds-measures-vectors c =
     let h = behind _ _ c.requires.laid (many vector) (c.args.list.node + 1) (vectors _ _ c.requires.laid c.args.list c.args.k c.args.placement c.requires.sought c.requires.pair).ready.stands in search rules
 
 pub bounds-measures-vectors : goal.bounds-measures-vectors
 bounds-measures-vectors c =
     (behind _ _ c.requires.laid (many vector) (c.args.list.node + 1) (vectors _ _ c.requires.laid c.args.list c.args.k c.args.placement c.requires.sought c.requires.pair).ready.stands).0
 
-pub overflow-add-result : goal.overflow-add-result
-overflow-add-result c =
+pub overflow_add-result : goal.overflow_add-result
+overflow_add-result c =
     let h = behind _ _ c.requires.laid (many vector) (c.args.list.node + 1) (vectors _ _ c.requires.laid c.args.list c.args.k c.args.placement c.requires.sought c.requires.pair).ready.stands in omega arith
 
-pub moved-by-requires : goal.moved-by-requires
-moved-by-requires c = record { by = (c.vector-item-by.ensures blank).ready; near = c.requires.sought.ready.spot }
+pub moved_by-requires : goal.moved_by-requires
+moved_by-requires c = record { by = (c.vector_item-by.ensures blank).ready; near = c.requires.sought.ready.spot }
 
 pub returns : goal.returns
 returns c =
@@ -37,7 +37,7 @@ returns c =
     let t = c.args.placement in
     let s = c.requires.sought in
     record {
-      sought = others _ _ l x c.args.k t s c.requires.pair c.moved-by.result c.moved-by.ensures.near;
+      sought = others _ _ l x c.args.k t s c.requires.pair c.moved_by.result c.moved_by.ensures.near;
       behind = omega arith;
-      leads = λ m y. pair_led _ _ l x c.args.k t s c.requires.pair m c.vector-item-by.result y c.moved-by.result (c.vector-item-by.ensures m) (c.moved-by.ensures.is m);
+      leads = λ m y. pair_led _ _ l x c.args.k t s c.requires.pair m c.vector_item-by.result y c.moved_by.result (c.vector_item-by.ensures m) (c.moved_by.ensures.is m);
     }

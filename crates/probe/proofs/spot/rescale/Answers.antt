@@ -32,8 +32,8 @@ pub product-requires-3 : goal.product-requires-3
 product-requires-3 c = let r = reached c.args.at c.requires.near in
     record { near = kept c.args.at.z 1000000000 r.z (omega arith); second = kept c.args.by.x 1000 c.requires.small.x (omega arith); third = kept c.args.by.y 1000 c.requires.small.y (omega arith) }
 
-pub overflow-mul-divisor : goal.overflow-mul-divisor
-overflow-mul-divisor c = divisor_fits c.args.at.w c.args.by.x (search rules) (search rules) (reached c.args.at c.requires.near).w c.requires.small.x
+pub overflow_mul-divisor : goal.overflow_mul-divisor
+overflow_mul-divisor c = divisor_fits c.args.at.w c.args.by.x (search rules) (search rules) (reached c.args.at c.requires.near).w c.requires.small.x
 
 pub product-requires-4 : goal.product-requires-4
 product-requires-4 c =
@@ -56,8 +56,8 @@ returns c =
     let w = product_is c.product-4.result (to_z w64 (of_z w64 c.args.at.w) *ℤ to_z w64 (of_z w64 c.args.by.x)) c.args.by.y c.args.by.z (search rules) d fy fz c.product-4.ensures.is
     ∙ (λ i. to_z-of_z w64 c.args.at.w fw i *ℤ to_z-of_z w64 c.args.by.x fx i *ℤ c.args.by.y *ℤ c.args.by.z) in
     λ i. record {
-      x = sign_is c.with-sign.result _ _ _ _ (search rules) c.with-sign.ensures m x i;
-      y = sign_is c.with-sign-2.result _ _ _ _ (search rules) c.with-sign-2.ensures m y i;
-      z = sign_is c.with-sign-3.result _ _ _ _ (search rules) c.with-sign-3.ensures m z i;
-      w = sign_is c.with-sign-4.result _ _ _ _ (search rules) c.with-sign-4.ensures m w i;
+      x = sign_is c.with_sign.result _ _ _ _ (search rules) c.with_sign.ensures m x i;
+      y = sign_is c.with_sign-2.result _ _ _ _ (search rules) c.with_sign-2.ensures m y i;
+      z = sign_is c.with_sign-3.result _ _ _ _ (search rules) c.with_sign-3.ensures m z i;
+      w = sign_is c.with_sign-4.result _ _ _ _ (search rules) c.with_sign-4.ensures m w i;
     }

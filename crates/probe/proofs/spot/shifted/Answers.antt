@@ -3,13 +3,13 @@ use Rattle.std.proofs.lemmas.Int.{to_z-of_z}
 use Rattle.probe.proofs.Bounds.{shifts}
 use Rattle.probe.proofs.spot.shifted.Goals as goal
 
-pub overflow-mul-result : goal.overflow-mul-result
-overflow-mul-result c =
+pub overflow_mul-result : goal.overflow_mul-result
+overflow_mul-result c =
     let f = c.ranges.by in let g = c.ranges.w in
     simp to_z-of_z (shifts c.args.coordinate c.args.by c.args.w c.requires.near c.requires.small c.requires.fine).way
 
-pub overflow-sub-result : goal.overflow-sub-result
-overflow-sub-result c =
+pub overflow_sub-result : goal.overflow_sub-result
+overflow_sub-result c =
     let f = c.ranges.by in let g = c.ranges.w in let h = c.ranges.coordinate in
     let s = shifts c.args.coordinate c.args.by c.args.w c.requires.near c.requires.small c.requires.fine in
     let way : SFits w64 (c.args.by *ℤ c.args.w) = s.way in

@@ -26,7 +26,7 @@ returns-in-Some g c =
     let v = at c.args.index c.args.sizes in
     let m = g.F.Family.meaning c.args.family.now in
     let k = kind_some c.in-Some.kind _ c.in-Some.ensures ∙ ap natural (to_z-of_z w64 c.args.kind c.ranges.kind) in
-    c.sized-in.ensures ∙ ap (λ (n : ℕ). (asked m).contains (record { kind = n; sizes = v }) c.args.at) k
+    c.sized_in.ensures ∙ ap (λ (n : ℕ). (asked m).contains (record { kind = n; sizes = v }) c.args.at) k
 
 pub returns-in-None : goal.returns-in-None
 returns-in-None g c =

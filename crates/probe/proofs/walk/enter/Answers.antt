@@ -19,8 +19,8 @@ use Rattle.probe.proofs.walk.enter.Goals as goal
 here : (nodes : List Node) (ms : List Measure) → Laid nodes ms → (x : Task) → Ready nodes (one solid) x → (x.node < length nodes) × (x.node < 640)
 here nodes ms laid x r = let h = inside nodes x.node r.stands in (h, omega (arith, laid.few))
 
-pub offset-bounds-nodes-x : goal.offset-bounds-nodes-x
-offset-bounds-nodes-x g c = let h = here c.args.nodes.now c.args.measures.now c.requires.laid c.args.x c.requires.low.1 in search rules
+pub offset_bounds-nodes-x : goal.offset_bounds-nodes-x
+offset_bounds-nodes-x g c = let h = here c.args.nodes.now c.args.measures.now c.requires.laid c.args.x c.requires.low.1 in search rules
 
 pub bounds : goal.bounds
 bounds g c = let h = here c.args.nodes.now c.args.measures.now c.requires.laid c.args.x c.requires.low.1 in search rules
@@ -37,17 +37,17 @@ bounds-nodes g c = let h = here c.args.nodes.now c.args.measures.now c.requires.
 pub bounds-nodes-in-Place· : goal.bounds-nodes-in-Place·
 bounds-nodes-in-Place· g c = let h = here c.args.nodes.now c.args.measures.now c.requires.laid c.args.x c.requires.low.1 in search rules
 
-pub overflow-add-result : goal.overflow-add-result
-overflow-add-result g c = let h = here c.args.nodes.now c.args.measures.now c.requires.laid c.args.x c.requires.low.1 in search rules
+pub overflow_add-result : goal.overflow_add-result
+overflow_add-result g c = let h = here c.args.nodes.now c.args.measures.now c.requires.laid c.args.x c.requires.low.1 in search rules
 
 pub bounds-nodes-in-Join· : goal.bounds-nodes-in-Join·
 bounds-nodes-in-Join· g c = let h = here c.args.nodes.now c.args.measures.now c.requires.laid c.args.x c.requires.low.1 in search rules
 
-pub overflow-add-list : goal.overflow-add-list
-overflow-add-list g c = let h = here c.args.nodes.now c.args.measures.now c.requires.laid c.args.x c.requires.low.1 in search rules
+pub overflow_add-list : goal.overflow_add-list
+overflow_add-list g c = let h = here c.args.nodes.now c.args.measures.now c.requires.laid c.args.x c.requires.low.1 in search rules
 
-pub push-reserved-requires : goal.push-reserved-requires
-push-reserved-requires g c =
+pub push_reserved-requires : goal.push_reserved-requires
+push_reserved-requires g c =
     let h = here c.args.nodes.now c.args.measures.now c.requires.laid c.args.x c.requires.low.1 in
     let l : length (vec_items c.args.frames.now) ≤ c.args.x.node = c.requires.low.0 in search rules
 
@@ -86,20 +86,20 @@ returns-in-Place g c =
     }
 
 pub returns-in-Join : goal.returns-in-Join
-returns-in-Join g c = record { turns = c.enter-join.ensures.goes (asked (g.F.Family.meaning c.args.family.now)); room = c.enter-join.ensures.room }
+returns-in-Join g c = record { turns = c.enter_join.ensures.goes (asked (g.F.Family.meaning c.args.family.now)); room = c.enter_join.ensures.room }
 
 pub returns-in-Fold : goal.returns-in-Fold
 returns-in-Fold g c =
     let m = asked (g.F.Family.meaning c.args.family.now) in
     let P : List Frame → Type 0 = λ z. Goes c.args.nodes.now m (vec_items c.args.frames.now) (Enter c.args.x) z (Leave false) in
     record {
-      turns = subst P (sym c.push-reserved.ensures.items) (fold_on c.args.nodes.now m (vec_items c.args.frames.now) c.args.x v.Empty c.requires.sound c.requires.low.0 c.requires.low.1 c.in-Fold.is c.requires.laid.few);
-      room = omega (arith, c.push-reserved.ensures.capacity, c.requires.room);
+      turns = subst P (sym c.push_reserved.ensures.items) (fold_on c.args.nodes.now m (vec_items c.args.frames.now) c.args.x v.Empty c.requires.sound c.requires.low.0 c.requires.low.1 c.in-Fold.is c.requires.laid.few);
+      room = omega (arith, c.push_reserved.ensures.capacity, c.requires.room);
     }
 
-pub returns-in-default : goal.returns-in-default
-returns-in-default g c =
-    let m = asked (g.F.Family.meaning c.args.family.now) in let r = c.in-default in
+pub returns-in_default : goal.returns-in_default
+returns-in_default g c =
+    let m = asked (g.F.Family.meaning c.args.family.now) in let r = c.in_default in
     record {
       turns = rest_on c.args.nodes.now m (vec_items c.args.frames.now) c.args.x v.Empty c.requires.sound c.requires.low.0 c.requires.low.1 r.not-Primitive r.not-Place r.not-Join r.not-Fold;
       room = c.requires.room;

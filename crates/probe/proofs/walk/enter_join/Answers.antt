@@ -29,29 +29,29 @@ told_on nodes ms laid m fs x o s l r e =
     let P : Measure → Type 0 = λ u. Goes nodes m fs (Enter x) (fs ++ Left o (task (x.node + 1 + u.nodes) x.index x.spot) ∷ []) (Enter (task (x.node + 1) x.index x.spot)) in
     subst P (sym (told nodes ms laid (one solid) (x.node + 1) (left_stands nodes x o e r))) (join_on nodes m fs x v.Empty s l r o e)
 
-pub overflow-add-first : goal.overflow-add-first
-overflow-add-first c = let h = behind c.args.nodes.now c.args.measures.now c.requires.laid (one solid) c.args.x.node c.requires.low.1.stands in omega (arith, h.1)
+pub overflow_add-first : goal.overflow_add-first
+overflow_add-first c = let h = behind c.args.nodes.now c.args.measures.now c.requires.laid (one solid) c.args.x.node c.requires.low.1.stands in omega (arith, h.1)
 
-pub offset-bounds-measures-first : goal.offset-bounds-measures-first
-offset-bounds-measures-first c =
+pub offset_bounds-measures-first : goal.offset_bounds-measures-first
+offset_bounds-measures-first c =
     let h = behind c.args.nodes.now c.args.measures.now c.requires.laid (one solid) (c.args.x.node + 1) (left_stands _ c.args.x c.args.operator c.requires.is c.requires.low.1) in search rules
 
 pub bounds-measures-first : goal.bounds-measures-first
 bounds-measures-first c =
     (behind c.args.nodes.now c.args.measures.now c.requires.laid (one solid) (c.args.x.node + 1) (left_stands _ c.args.x c.args.operator c.requires.is c.requires.low.1)).0
 
-pub overflow-add-right : goal.overflow-add-right
-overflow-add-right c =
+pub overflow_add-right : goal.overflow_add-right
+overflow_add-right c =
     let h = behind c.args.nodes.now c.args.measures.now c.requires.laid (one solid) (c.args.x.node + 1) (left_stands _ c.args.x c.args.operator c.requires.is c.requires.low.1) in omega (arith, h.2)
 
-pub push-reserved-requires : goal.push-reserved-requires
-push-reserved-requires c =
+pub push_reserved-requires : goal.push_reserved-requires
+push_reserved-requires c =
     let h = behind c.args.nodes.now c.args.measures.now c.requires.laid (one solid) c.args.x.node c.requires.low.1.stands in
     let l : length (vec_items c.args.frames.now) ≤ c.args.x.node = c.requires.low.0 in search rules
 
 pub returns : goal.returns
 returns c = record {
   goes = λ m. let P : List Frame → Type 0 = λ z. Goes c.args.nodes.now m (vec_items c.args.frames.now) (Enter c.args.x) z (Enter (task (c.args.x.node + 1) c.args.x.index c.args.x.spot)) in
-      subst P (sym c.push-reserved.ensures.items) (told_on c.args.nodes.now c.args.measures.now c.requires.laid m (vec_items c.args.frames.now) c.args.x c.args.operator c.requires.sound c.requires.low.0 c.requires.low.1 c.requires.is);
-  room = omega (arith, c.push-reserved.ensures.capacity, c.requires.room);
+      subst P (sym c.push_reserved.ensures.items) (told_on c.args.nodes.now c.args.measures.now c.requires.laid m (vec_items c.args.frames.now) c.args.x c.args.operator c.requires.sound c.requires.low.0 c.requires.low.1 c.requires.is);
+  room = omega (arith, c.push_reserved.ensures.capacity, c.requires.room);
 }

@@ -34,8 +34,8 @@ item-requires c = let r = c.in-Rest in
 pub returns-in-Left : goal.returns-in-Left
 returns-in-Left c = let r = c.in-Left in record {
   goes = λ m. let P : List Frame → Type 0 = λ z. Goes c.args.nodes.now m (vec_items c.args.frames.now ++ c.args.frame ∷ []) (Leave c.args.held) z (Enter r.right) in
-      subst P (sym c.push-reserved.ensures.items) (leave_left c.args.nodes.now (vec_items c.args.frames.now) m c.args.frame r.operator r.right c.args.held r.is c.requires.sound);
-  room = omega (arith, c.push-reserved.ensures.capacity, c.requires.room);
+      subst P (sym c.push_reserved.ensures.items) (leave_left c.args.nodes.now (vec_items c.args.frames.now) m c.args.frame r.operator r.right c.args.held r.is c.requires.sound);
+  room = omega (arith, c.push_reserved.ensures.capacity, c.requires.room);
 }
 
 pub returns-in-Right : goal.returns-in-Right
@@ -50,10 +50,10 @@ returns-then-next-count c = let r = c.in-Rest in
     let few : r.next < count (term c.args.nodes.now (many solid) r.list.node) = omega (arith, n, c.elements-count.ensures, c.if-next-count.true) in
     record {
       goes = λ m. let P : List Frame → Type 0 = λ z. Goes c.args.nodes.now m (vec_items c.args.frames.now ++ c.args.frame ∷ []) (Leave c.args.held) z (Enter c.item.result) in
-          subst P (sym c.push-reserved-then-next-count.ensures.items)
+          subst P (sym c.push_reserved-then-next-count.ensures.items)
           (leave_next c.args.nodes.now (vec_items c.args.frames.now) m c.args.frame r.list c.item.result r.next r.earlier c.args.held c.applied-any.result r.is c.applied-any.ensures few c.requires.laid.few
           (c.item.ensures m) c.requires.sound);
-      room = omega (arith, c.push-reserved-then-next-count.ensures.capacity, c.requires.room);
+      room = omega (arith, c.push_reserved-then-next-count.ensures.capacity, c.requires.room);
     }
 
 pub returns-else-next-count : goal.returns-else-next-count

@@ -12,7 +12,7 @@ returns-in-Some g c =
     let m = g.F.Family.meaning c.args.family.now in
     let b = bounded_some 1000000 v c.in-Some.sizes c.in-Some.ensures in
     let k : leb c.args.kind 65535 ≡ true = le-leb c.args.kind 65535 (omega arith) in
-    c.is-in.ensures ∙ ap (λ (u : Triple). m.contains (record { kind = c.args.kind; sizes = u }) c.args.at) b.0
+    c.is_in.ensures ∙ ap (λ (u : Triple). m.contains (record { kind = c.args.kind; sizes = u }) c.args.at) b.0
     ∙ sym (λ i. (k i && not (not_beyond 1000000 v b.1 i)) && m.contains (record { kind = c.args.kind; sizes = v }) c.args.at)
 
 never : (a b x : Bool) → b ≡ true → false ≡ ((a && not b) && x)

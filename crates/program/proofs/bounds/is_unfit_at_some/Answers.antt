@@ -5,11 +5,11 @@ use Rattle.model.specs.Legality.{unfit}
 use Rattle.program.proofs.Indices.{some_is, none_is}
 use Rattle.program.proofs.bounds.is_unfit_at_some.Goals as goal
 
-pub returns-then-is-unfit-at : goal.returns-then-is-unfit-at
-returns-then-is-unfit-at c =
+pub returns-then-is_unfit_at : goal.returns-then-is_unfit_at
+returns-then-is_unfit_at c =
     let fc : SFits w64 c.args.constant = c.ranges.constant in
     let fs : SFits w64 c.args.slope = c.ranges.slope in
-    let e : true ≡ unfit c.args.placement (linear c.args.constant c.args.slope c.loop-i.i) = simp to_z-of_z at c.if-is-unfit-at.ensures in
+    let e : true ≡ unfit c.args.placement (linear c.args.constant c.args.slope c.loop-i.i) = simp to_z-of_z at c.if-is_unfit_at.ensures in
     sym (some_is (λ i. unfit c.args.placement (linear c.args.constant c.args.slope i)) c.args.count c.loop-i.i (omega arith) (sym e))
 
 pub returns : goal.returns

@@ -11,5 +11,5 @@ pub returns : goal.returns
 returns c =
     let v = c.args.v in
     let t = c.args.placement in
-    neither _ _ _ _ c.if-is-far.ensures c.if-is-far-2.ensures
-    (c.is-unfit-somewhere.ensures ∙ ap (some_axis_along (unfit t) v) c.turns-around.ensures.value ∙ sym (by_axis (unfit t) v c.args.context.around))
+    neither _ _ _ _ c.if-is_far.ensures c.if-is_far-2.ensures
+    (c.is_unfit_somewhere.ensures ∙ ap (some_axis_along (unfit t) v) c.turns_around.ensures.value ∙ sym (by_axis (unfit t) v c.args.context.around))

@@ -5,15 +5,15 @@ use Rattle.std.proofs.lemmas.Int.{to_z-of_z}
 use Rattle.program.proofs.Linears.{times_fits, linear_fits}
 use Rattle.program.proofs.bounds.value_at.Goals as goal
 
-pub overflow-mul-result : goal.overflow-mul-result
-overflow-mul-result c =
+pub overflow_mul-result : goal.overflow_mul-result
+overflow_mul-result c =
     let fs : SFits w64 c.args.slope = c.ranges.slope in
     let ws : SFits w128 c.args.slope = omega (arith, ints) in
     let i : to_z w128 c.args.index ≡ pos c.args.index = omega (arith, ints) in
     simp (to_z-of_z, i) (times_fits c.args.index c.args.slope c.requires fs)
 
-pub overflow-add-result : goal.overflow-add-result
-overflow-add-result c =
+pub overflow_add-result : goal.overflow_add-result
+overflow_add-result c =
     let fs : SFits w64 c.args.slope = c.ranges.slope in
     let fc : SFits w64 c.args.constant = c.ranges.constant in
     let ws : SFits w128 c.args.slope = omega (arith, ints) in

@@ -17,7 +17,7 @@ pub returns : goal.returns
 returns c =
     let ms = c.args.measures.now in
     let short : length ms < 2 ^ 63 = search rules in
-    let one = c.measure-at-first.ensures in
-    let two = c.measure-at-second.ensures ∙ capped ms (c.args.place + 1 + c.measure-at-first.result.nodes) c.saturating-add.result short (omega (arith, c.saturating-add.ensures)) ∙ ap (λ (t : Measure). get_or ms (c.args.place + 1 + t.nodes) nothing) one in
-    let own = c.measure-at.ensures in
+    let one = c.measure_at-first.ensures in
+    let two = c.measure_at-second.ensures ∙ capped ms (c.args.place + 1 + c.measure_at-first.result.nodes) c.saturating_add.result short (omega (arith, c.saturating_add.ensures)) ∙ ap (λ (t : Measure). get_or ms (c.args.place + 1 + t.nodes) nothing) one in
+    let own = c.measure_at.ensures in
     λ i. record { own = (own i).elements; first = (one i).elements; second = (two i).elements }

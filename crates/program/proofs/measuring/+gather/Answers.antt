@@ -8,8 +8,8 @@ returns-then-count-eq0 t c =
     let why : (c.args.count ≡ 0) ⊎ (length c.args.measures.now ≤ c.args.from) = search rules in
     gather_none c.args.measures.now c.args.from c.args.count why c.requires.place
 
-pub overflow-add-from : goal.overflow-add-from
-overflow-add-from t c =
+pub overflow_add-from : goal.overflow_add-from
+overflow_add-from t c =
     let short : length c.args.measures.now < 2 ^ 63 = search rules in
     let here = c.requires.bounded c.args.from (omega arith) c.if-from-measures.false in
     omega (arith, here.within)
@@ -19,13 +19,13 @@ gather-rest-requires t c =
     let here = c.requires.bounded c.args.from (omega arith) c.if-from-measures.false in
     (omega arith, (here.within, λ place above within. c.requires.bounded place (omega (arith, here.some)) within))
 
-pub overflow-add-result : goal.overflow-add-result
-overflow-add-result t c =
+pub overflow_add-result : goal.overflow_add-result
+overflow_add-result t c =
     let short : length c.args.measures.now < 2 ^ 63 = search rules in
     omega (arith, c.gather-rest.ensures.within)
 
-pub overflow-add-result-2 : goal.overflow-add-result-2
-overflow-add-result-2 t c =
+pub overflow_add-result-2 : goal.overflow_add-result-2
+overflow_add-result-2 t c =
     let short : length c.args.measures.now < 2 ^ 63 = search rules in
     let here = c.requires.bounded c.args.from (omega arith) c.if-from-measures.false in
     omega (arith, c.gather-rest.ensures.within, c.gather-rest.ensures.light, here.unrolled)

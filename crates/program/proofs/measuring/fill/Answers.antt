@@ -21,8 +21,8 @@ gather-parts-requires c =
     let even = c.loop-place.invariant.even in
     record { place = omega arith; bounded = λ j above below. c.loop-place.invariant.bounded j (omega arith) below }
 
-pub told-of-requires : goal.told-of-requires
-told-of-requires c =
+pub told_of-requires : goal.told_of-requires
+told_of-requires c =
     let g = c.gather-parts.ensures in
     record { nodes = omega (arith, g.within, c.loop-place.invariant.even, c.requires.few); elements = g.elements; light = g.light }
 
@@ -34,8 +34,8 @@ loop-place-preserved c =
     let P : ℕ → Type 0 = λ n. Filled ns ms n in
     let old : Filled ns ms (place + 1) = subst P (omega arith) c.loop-place.invariant in
     let short : length ms < 2 ^ 63 = search rules in
-    filled_more ns ms place c.parts.result (get_or ns place Empty) Empty c.gather-parts.result c.told-of.result old (omega arith) short refl c.parts.ensures
-    c.gather-parts.ensures c.told-of.ensures.value c.told-of.ensures.bound
+    filled_more ns ms place c.parts.result (get_or ns place Empty) Empty c.gather-parts.result c.told_of.result old (omega arith) short refl c.parts.ensures
+    c.gather-parts.ensures c.told_of.ensures.value c.told_of.ensures.bound
 
 pub returns : goal.returns
 returns c =

@@ -12,6 +12,6 @@ returns c =
       | else-end-text w ↦ drop_all c.if-end-text.next c.args.text.now (omega (arith, w.next-is)) ∙ sym (drop_all (suc (prefix_len (in_class c.args.class) c.args.text.now)) c.args.text.now (omega arith))
     ] in
     record {
-      front = ap (λ n. take n c.args.text.now) c.run-length-end.ensures.value;
+      front = ap (λ n. take n c.args.text.now) c.run_length-end.ensures.value;
       rest = take_rest c.args.text.now c.if-end-text.next ∙ next;
     }

@@ -6,10 +6,10 @@ use Rattle.rows.proofs.line.next_word.Goals as goal
 
 pub returns : goal.returns
 returns c =
-    let part = take_rest c.args.text.now c.run-length-start.result ∙ ap (λ n. drop n c.args.text.now) c.run-length-start.ensures.value in
+    let part = take_rest c.args.text.now c.run_length-start.result ∙ ap (λ n. drop n c.args.text.now) c.run_length-start.ensures.value in
     let found = next_word c.args.text.now _ part in
     record {
-      first = c.first-piece-found.ensures.front ∙ found.0;
-      more = ap words c.first-piece-found.ensures.rest ∙ found.1;
-      none = λ h. found.2 (ap length (sym c.first-piece-found.ensures.front) ∙ h);
+      first = c.first_piece-found.ensures.front ∙ found.0;
+      more = ap words c.first_piece-found.ensures.rest ∙ found.1;
+      none = λ h. found.2 (ap length (sym c.first_piece-found.ensures.front) ∙ h);
     }

@@ -8,35 +8,35 @@ use Rattle.rows.proofs.Fives.{says_blank, says_many, says_row, word_at, rest_at,
 use Rattle.rows.proofs.line.words_of.Goals as goal
 use Rattle.rows.proofs.line.words_of.Goals.{After-next-word}
 
-pub returns-then-is-empty : goal.returns-then-is-empty
-returns-then-is-empty c = sym (says_blank _ (ap length (c.next-word-profile.ensures.none (eqb-true _ 0 (sym c.if-is-empty.ensures)))))
+pub returns-then-is_empty : goal.returns-then-is_empty
+returns-then-is_empty c = sym (says_blank _ (ap length (c.next_word-profile.ensures.none (eqb-true _ 0 (sym c.if-is_empty.ensures)))))
 
 -- after the words p, q, r and d stand the words from the third, the fourth, the fifth and the sixth on
-rests : (c : goal.After-next-word) → (words c.next-word-p.result.rest.now ≡ drop 2 (words c.args.text.now)) × (words c.next-word-q.result.rest.now ≡ drop 3 (words c.args.text.now)) × (words c.next-word-r.result.rest.now ≡ drop 4 (words c.args.text.now)) × (words c.next-word-d.result.rest.now ≡ drop 5 (words c.args.text.now))
+rests : (c : goal.After-next_word) → (words c.next_word-p.result.rest.now ≡ drop 2 (words c.args.text.now)) × (words c.next_word-q.result.rest.now ≡ drop 3 (words c.args.text.now)) × (words c.next_word-r.result.rest.now ≡ drop 4 (words c.args.text.now)) × (words c.next_word-d.result.rest.now ≡ drop 5 (words c.args.text.now))
 rests c =
     let ws = words c.args.text.now in
-    let after-p = rest_at ws _ _ 1 c.next-word-profile.ensures.more c.next-word-p.ensures.more in
-    let after-q = rest_at ws _ _ 2 after-p c.next-word-q.ensures.more in
-    let after-r = rest_at ws _ _ 3 after-q c.next-word-r.ensures.more in
-    (after-p, after-q, after-r, rest_at ws _ _ 4 after-r c.next-word-d.ensures.more)
+    let after-p = rest_at ws _ _ 1 c.next_word-profile.ensures.more c.next_word-p.ensures.more in
+    let after-q = rest_at ws _ _ 2 after-p c.next_word-q.ensures.more in
+    let after-r = rest_at ws _ _ 3 after-q c.next_word-r.ensures.more in
+    (after-p, after-q, after-r, rest_at ws _ _ 4 after-r c.next_word-d.ensures.more)
 
-pub returns-then-not-is-empty : goal.returns-then-not-is-empty
-returns-then-not-is-empty c =
+pub returns-then-not-is_empty : goal.returns-then-not-is_empty
+returns-then-not-is_empty c =
     let ws = words c.args.text.now in
-    let sixth = word_at ws _ 5 _ (rests (goal.at.returns-then-not-is-empty c).After-next-word).3 c.next-word.ensures.first in
-    sym (says_many ws (there ws 5 _ sixth (eqb-false _ 0 (sym c.if-not-is-empty.ensures))))
+    let sixth = word_at ws _ 5 _ (rests (goal.at.returns-then-not-is_empty c).After-next-word).3 c.next_word.ensures.first in
+    sym (says_many ws (there ws 5 _ sixth (eqb-false _ 0 (sym c.if-not-is_empty.ensures))))
 
 pub returns : goal.returns
 returns c =
     let ws = words c.args.text.now in
     let after = rests (goal.at.returns c).After-next-word in
-    let some = there ws 0 _ c.next-word-profile.ensures.first (eqb-false _ 0 (sym c.if-is-empty.ensures)) in
-    let none = sym after.3 ∙ c.next-word.ensures.none (eqb-true _ 0 (sym c.if-not-is-empty.ensures)) in
-    c.line-from.ensures
-    ∙ ap a_row (c.row-from.ensures ∙ five_by ws _ _ _ _ _
-    (c.profile-of.ensures ∙ ap profile_of c.next-word-profile.ensures.first)
-    (c.whole-of.ensures ∙ ap whole_of (word_at ws _ 1 _ c.next-word-profile.ensures.more c.next-word-p.ensures.first))
-    (c.whole-of-2.ensures ∙ ap whole_of (word_at ws _ 2 _ after.0 c.next-word-q.ensures.first))
-    (c.whole-of-3.ensures ∙ ap whole_of (word_at ws _ 3 _ after.1 c.next-word-r.ensures.first))
-    (c.whole-of-4.ensures ∙ ap whole_of (word_at ws _ 4 _ after.2 c.next-word-d.ensures.first)))
+    let some = there ws 0 _ c.next_word-profile.ensures.first (eqb-false _ 0 (sym c.if-is_empty.ensures)) in
+    let none = sym after.3 ∙ c.next_word.ensures.none (eqb-true _ 0 (sym c.if-not-is_empty.ensures)) in
+    c.line_from.ensures
+    ∙ ap a_row (c.row_from.ensures ∙ five_by ws _ _ _ _ _
+    (c.profile_of.ensures ∙ ap profile_of c.next_word-profile.ensures.first)
+    (c.whole_of.ensures ∙ ap whole_of (word_at ws _ 1 _ c.next_word-profile.ensures.more c.next_word-p.ensures.first))
+    (c.whole_of-2.ensures ∙ ap whole_of (word_at ws _ 2 _ after.0 c.next_word-q.ensures.first))
+    (c.whole_of-3.ensures ∙ ap whole_of (word_at ws _ 3 _ after.1 c.next_word-r.ensures.first))
+    (c.whole_of-4.ensures ∙ ap whole_of (word_at ws _ 4 _ after.2 c.next_word-d.ensures.first)))
     ∙ sym (says_row ws some (omega (arith, ap length none, length-drop 5 ws)))

@@ -7,37 +7,37 @@ use Rattle.model.proofs.Numbers.{digit_value, short_value}
 use Rattle.rows.specs.Numbers.{natural_of}
 use Rattle.rows.proofs.Naturals.{no_natural_empty, no_natural_long, no_natural_byte, natural_digits}
 use Rattle.rows.proofs.number.natural_of.Goals as goal
-use Rattle.rows.proofs.number.natural_of.Goals.{Else-not-is-ascii-digit, then-is-empty-via-then-is-empty, then-is-empty-via-else-is-empty+then-word-gt-MOST-DIGITS}
+use Rattle.rows.proofs.number.natural_of.Goals.{Else-not-is-ascii-digit, then-is_empty-via-then-is_empty, then-is_empty-via-else-is_empty+then-word-gt-MOST-DIGITS}
 
-pub returns-then-is-empty : goal.returns-then-is-empty
-returns-then-is-empty c =
-    let none : natural_of c.args.word.now ≡ _ = elim c.then-is-empty.branch [
-      | then-is-empty-via-then-is-empty w ↦ no_natural_empty _ (eqb-true _ 0 (sym c.is-empty.ensures ∙ w.if-is-empty.true))
-      | then-is-empty-via-else-is-empty+then-word-gt-MOST-DIGITS w ↦ no_natural_long _ w.if-word-gt-MOST-DIGITS.true
+pub returns-then-is_empty : goal.returns-then-is_empty
+returns-then-is_empty c =
+    let none : natural_of c.args.word.now ≡ _ = elim c.then-is_empty.branch [
+      | then-is_empty-via-then-is_empty w ↦ no_natural_empty _ (eqb-true _ 0 (sym c.is_empty.ensures ∙ w.if-is_empty.true))
+      | then-is_empty-via-else-is_empty+then-word-gt-MOST-DIGITS w ↦ no_natural_long _ w.if-word-gt-MOST-DIGITS.true
     ] in
     record { value = sym none; small = tt }
 
-pub returns-then-not-is-ascii-digit : goal.returns-then-not-is-ascii-digit
-returns-then-not-is-ascii-digit c = record {
-  value = sym (no_natural_byte c.args.word.now c.loop-b.b-index c.loop-b-test.true (sym c.if-not-is-ascii-digit.ensures.value));
+pub returns-then-not-is_ascii_digit : goal.returns-then-not-is_ascii_digit
+returns-then-not-is_ascii_digit c = record {
+  value = sym (no_natural_byte c.args.word.now c.loop-b.b-index c.loop-b-test.true (sym c.if-not-is_ascii_digit.ensures.value));
   small = tt;
 }
 
 -- what is read so far has at most seventeen digits
-before_last : (c : goal.Else-not-is-ascii-digit) → c.loop-b.value < 10 ^ 17
+before_last : (c : goal.Else-not-is_ascii_digit) → c.loop-b.value < 10 ^ 17
 before_last c = subst (λ n. n < 10 ^ 17) (sym c.loop-b.invariant.0) (short_value (take c.loop-b.b-index c.args.word.now) 17 c.loop-b.invariant.1 (omega (arith, length-take-le c.loop-b.b-index c.args.word.now (omega arith))))
 
-pub overflow-mul-value : goal.overflow-mul-value
-overflow-mul-value c = let h = before_last c in omega arith
+pub overflow_mul-value : goal.overflow_mul-value
+overflow_mul-value c = let h = before_last c in omega arith
 
-pub overflow-add-value : goal.overflow-add-value
-overflow-add-value c =
-    let h : c.loop-b.value < 10 ^ 17 = before_last (goal.at.overflow-add-value c).Else-not-is-ascii-digit in
-    omega (arith, (digit_value (get_or c.args.word.now c.loop-b.b-index 0) (sym c.if-not-is-ascii-digit.ensures.value)).1)
+pub overflow_add-value : goal.overflow_add-value
+overflow_add-value c =
+    let h : c.loop-b.value < 10 ^ 17 = before_last (goal.at.overflow_add-value c).Else-not-is-ascii-digit in
+    omega (arith, (digit_value (get_or c.args.word.now c.loop-b.b-index 0) (sym c.if-not-is_ascii_digit.ensures.value)).1)
 
 pub loop-b-preserved : goal.loop-b-preserved
 loop-b-preserved c =
-    let digit = digit_value (get_or c.args.word.now c.loop-b.b-index 0) (sym c.if-not-is-ascii-digit.ensures.value) in (
+    let digit = digit_value (get_or c.args.word.now c.loop-b.b-index 0) (sym c.if-not-is_ascii_digit.ensures.value) in (
       omega (arith, digit.0, c.loop-b.invariant.0, digits_value_more 10 c.args.word.now c.loop-b.b-index c.loop-b-test.true),
       digits_more 10 c.args.word.now c.loop-b.b-index c.loop-b-test.true c.loop-b.invariant.1 digit.1,
     )
@@ -48,6 +48,6 @@ returns c =
     let ds : AllDigits 10 c.args.word.now = subst (AllDigits 10) all c.loop-b.invariant.1 in
     let is = c.loop-b.invariant.0 ∙ ap (digits_value 10) all in
     record {
-      value = ap Some is ∙ sym (natural_digits c.args.word.now (omega (arith, eqb-false (length c.args.word.now) 0 (sym c.if-is-empty.ensures))) c.if-word-gt-MOST-DIGITS.false ds);
+      value = ap Some is ∙ sym (natural_digits c.args.word.now (omega (arith, eqb-false (length c.args.word.now) 0 (sym c.if-is_empty.ensures))) c.if-word-gt-MOST-DIGITS.false ds);
       small = omega (arith, short_value c.args.word.now 18 ds (omega arith));
     }

@@ -10,7 +10,7 @@ use Rattle.rows.proofs.number.whole_of.Goals.{else-word-gt0-via-then-word-gt0+el
 pub returns-then-word-eq45 : goal.returns-then-word-eq45
 returns-then-word-eq45 c =
     let rest = between_to_end c.args.word.now 1 (length c.args.word.now) (omega arith) in
-    c.negative.ensures ∙ ap (option_map minus) (c.natural-of.ensures.value ∙ ap natural_of rest) ∙ sym (whole_minus c.args.word.now (omega arith))
+    c.negative.ensures ∙ ap (option_map minus) (c.natural_of.ensures.value ∙ ap natural_of rest) ∙ sym (whole_minus c.args.word.now (omega arith))
 
 pub returns-else-word-gt0 : goal.returns-else-word-gt0
 returns-else-word-gt0 c =
@@ -18,4 +18,4 @@ returns-else-word-gt0 c =
       | else-word-gt0-via-then-word-gt0+else-word-eq45 w ↦ w.if-word-eq45.false
       | else-word-gt0-via-else-word-gt0 w ↦ λ e. omega (arith, get_or_past c.args.word.now 0 0 (omega arith))
     ] in
-    c.positive.ensures ∙ ap (option_map pos) c.natural-of-else-word-gt0.ensures.value ∙ sym (whole_plain c.args.word.now first)
+    c.positive.ensures ∙ ap (option_map pos) c.natural_of-else-word-gt0.ensures.value ∙ sym (whole_plain c.args.word.now first)

@@ -15,8 +15,8 @@ returns-then-text-gt-MOST-BYTES c =
     let o : outcome text ≡ refused (TooLarge past_end) = outcome_long text c.if-text-gt-MOST-BYTES.true in
     record { outcome = o; reading = (inl (c.if-text-gt-MOST-BYTES.true, refl), λ e. never text (TooLarge past_end) e o, refl) }
 
-pub read-program-requires : goal.read-program-requires
-read-program-requires c = record { cap = c.args.table.now.spared; fresh = nil_from_length (vec_items c.args.table.now.spare) (omega (arith, c.args.table.now.fresh, c.args.table.now.spare.ok.0)) }
+pub read_program-requires : goal.read_program-requires
+read_program-requires c = record { cap = c.args.table.now.spared; fresh = nil_from_length (vec_items c.args.table.now.spare) (omega (arith, c.args.table.now.fresh, c.args.table.now.spare.ok.0)) }
 
 pub returns-in-Err : goal.returns-in-Err
 returns-in-Err c =
@@ -24,13 +24,13 @@ returns-in-Err c =
     let o : outcome text ≡ refused c.in-Err.refusal = outcome_short text c.if-text-gt-MOST-BYTES.false ∙ c.in-Err.ensures.goes in
     record { outcome = o; reading = (refuses text c.in-Err.refusal o, λ e. never text c.in-Err.refusal e o, refl) }
 
-pub invariant-of-table-2 : goal.invariant-of-table-2
-invariant-of-table-2 c =
-    let l = subst (λ v. Loaded c.args.text.now (vec_items v)) (sym c.swap.ensures.x-after) (loaded c.args.text.now (vec_items c.read-program.new.out) (vec_len c.read-program.new.out) c.in-default.ensures.read c.if-text-gt-MOST-BYTES.false c.in-default.ensures.goes) in
+pub invariant_of-table-2 : goal.invariant_of-table-2
+invariant_of-table-2 c =
+    let l = subst (λ v. Loaded c.args.text.now (vec_items v)) (sym c.swap.ensures.x-after) (loaded c.args.text.now (vec_items c.read_program.new.out) (vec_len c.read_program.new.out) c.in_default.ensures.read c.if-text-gt-MOST-BYTES.false c.in_default.ensures.goes) in
     let few : vec_len c.swap.new.x ≤ 640 = omega (arith, l.few, c.swap.new.x.ok.0) in
-    (l.are-whole, (few, (search rules, (search rules, (search rules, tt)))))
+    (l.are_whole, (few, (search rules, (search rules, (search rules, tt)))))
 
 pub returns : goal.returns
 returns c =
-    let l = subst (λ v. Loaded c.args.text.now (vec_items v)) (sym c.swap.ensures.x-after) (loaded c.args.text.now (vec_items c.read-program.new.out) (vec_len c.read-program.new.out) c.in-default.ensures.read c.if-text-gt-MOST-BYTES.false c.in-default.ensures.goes) in
+    let l = subst (λ v. Loaded c.args.text.now (vec_items v)) (sym c.swap.ensures.x-after) (loaded c.args.text.now (vec_items c.read_program.new.out) (vec_len c.read_program.new.out) c.in_default.ensures.read c.if-text-gt-MOST-BYTES.false c.in_default.ensures.goes) in
     record { outcome = l.outcome; reading = (l.accepted, read_small c.args.text.now (program (vec_items c.swap.new.x)) l.accepted, λ other e a. same_program other c.args.text.now e (program (vec_items c.swap.new.x)) a l.accepted) }

@@ -8,7 +8,7 @@ use Rattle.text.proofs.number.amount_of.Goals as goal
 pub returns-then-run-eq45 : goal.returns-then-run-eq45
 returns-then-run-eq45 c =
     let rest = between_to_end c.args.run.now 1 (length c.args.run.now) (omega arith) in
-    c.negative.ensures ∙ ap (option_map minus) (c.natural-of.ensures.value ∙ ap natural_of rest) ∙ sym (amount_minus c.args.run.now (omega arith))
+    c.negative.ensures ∙ ap (option_map minus) (c.natural_of.ensures.value ∙ ap natural_of rest) ∙ sym (amount_minus c.args.run.now (omega arith))
 
 pub returns-else-run-gt0 : goal.returns-else-run-gt0
 unfolding amount_of

@@ -13,27 +13,27 @@ returns-in-Some c =
 
 pub returns-then-cut-run : goal.returns-then-cut-run
 returns-then-cut-run c =
-    sym (slope_no_change c.args.run.now c.run-end-cut.result (sym c.in-default.ensures) c.run-end-cut.ensures.value
-    (ap change_of (drop_all c.run-end-cut.result c.args.run.now c.if-cut-run.true) ∙ change_none [] (λ e. omega arith) (λ e. omega arith)))
+    sym (slope_no_change c.args.run.now c.run_end-cut.result (sym c.in_default.ensures) c.run_end-cut.ensures.value
+    (ap change_of (drop_all c.run_end-cut.result c.args.run.now c.if-cut-run.true) ∙ change_none [] (λ e. omega arith) (λ e. omega arith)))
 
-pub returns-in-err-constant : goal.returns-in-err-constant
-returns-in-err-constant c =
+pub returns-in_err-constant : goal.returns-in_err-constant
+returns-in_err-constant c =
     c.from-residual.ensures
-    ∙ sym (slope_no_constant c.args.run.now c.run-end-cut.result (sym c.in-default.ensures) c.run-end-cut.ensures.value
-    (ap (λ n. amount_of (take n c.args.run.now)) (sym (sub-zero c.run-end-cut.result)) ∙ sym c.in-err-constant.ensures))
+    ∙ sym (slope_no_constant c.args.run.now c.run_end-cut.result (sym c.in_default.ensures) c.run_end-cut.ensures.value
+    (ap (λ n. amount_of (take n c.args.run.now)) (sym (sub-zero c.run_end-cut.result)) ∙ sym c.in_err-constant.ensures))
 
-pub returns-in-err-slope : goal.returns-in-err-slope
-returns-in-err-slope c =
-    c.from-residual-in-err-slope.ensures
-    ∙ sym (slope_no_change c.args.run.now c.run-end-cut.result (sym c.in-default.ensures) c.run-end-cut.ensures.value
-    (ap change_of (sym (take_rest c.args.run.now c.run-end-cut.result)) ∙ sym c.in-err-slope.ensures))
+pub returns-in_err-slope : goal.returns-in_err-slope
+returns-in_err-slope c =
+    c.from-residual-in_err-slope.ensures
+    ∙ sym (slope_no_change c.args.run.now c.run_end-cut.result (sym c.in_default.ensures) c.run_end-cut.ensures.value
+    (ap change_of (sym (take_rest c.args.run.now c.run_end-cut.result)) ∙ sym c.in_err-slope.ensures))
 
 pub returns : goal.returns
 returns c =
-    let fits-constant : SFits w64 c.in-ok-constant.constant = search rules in
-    let fits-slope : SFits w64 c.in-ok-slope.slope = search rules in
-    ap (λ a. Some (a, to_z w64 (of_z w64 c.in-ok-slope.slope))) (to_z-of_z w64 _ fits-constant)
-    ∙ ap (λ z. Some (c.in-ok-constant.constant, z)) (to_z-of_z w64 _ fits-slope)
-    ∙ sym (slope_both c.args.run.now c.run-end-cut.result _ _ (sym c.in-default.ensures) c.run-end-cut.ensures.value
-    (ap (λ n. amount_of (take n c.args.run.now)) (sym (sub-zero c.run-end-cut.result)) ∙ sym c.in-ok-constant.ensures)
-    (ap change_of (sym (take_rest c.args.run.now c.run-end-cut.result)) ∙ sym c.in-ok-slope.ensures))
+    let fits-constant : SFits w64 c.in_ok-constant.constant = search rules in
+    let fits-slope : SFits w64 c.in_ok-slope.slope = search rules in
+    ap (λ a. Some (a, to_z w64 (of_z w64 c.in_ok-slope.slope))) (to_z-of_z w64 _ fits-constant)
+    ∙ ap (λ z. Some (c.in_ok-constant.constant, z)) (to_z-of_z w64 _ fits-slope)
+    ∙ sym (slope_both c.args.run.now c.run_end-cut.result _ _ (sym c.in_default.ensures) c.run_end-cut.ensures.value
+    (ap (λ n. amount_of (take n c.args.run.now)) (sym (sub-zero c.run_end-cut.result)) ∙ sym c.in_ok-constant.ensures)
+    (ap change_of (sym (take_rest c.args.run.now c.run_end-cut.result)) ∙ sym c.in_ok-slope.ensures))

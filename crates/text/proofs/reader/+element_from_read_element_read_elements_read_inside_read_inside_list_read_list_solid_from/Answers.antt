@@ -11,78 +11,78 @@ use Rattle.text.specs.Lexer.{ahead, token_of, span_of}
 use Rattle.text.proofs.Ways.{none_read, also_read, one_read, node_read, more_read, listed_read, map2_solid, one_more, closing_mark}
 use Rattle.text.proofs.reader.+element_from_read_element_read_elements_read_inside_read_inside_list_read_list_solid_from.Goals as goal
 
-pub read-inside-returns-in-ok-mark : goal.read-inside-returns-in-ok-mark
-read-inside-returns-in-ok-mark t c =
+pub read_inside-returns-in_ok-mark : goal.read_inside-returns-in_ok-mark
+read_inside-returns-in_ok-mark t c =
     let q : mark Open ∷ said (ahead c.args.src.now) ≡ mark Open ∷ word (w.Prim) ∷ said (ahead c.take.new.self) = search rules in
-    let k = c.in-ok-kind.ensures.took in
-    let v = c.in-ok-sizes.ensures.took in
-    record { read = node_read (S.prim c.in-ok-kind.kind c.in-ok-sizes.sizes) (cc) (search rules) (none_read refl) c.in-ok-mark.ensures.took; same = search rules; ahead = search rules; longer = search rules; cap = search rules; goes = search rules }
+    let k = c.in_ok-kind.ensures.took in
+    let v = c.in_ok-sizes.ensures.took in
+    record { read = node_read (S.prim c.in_ok-kind.kind c.in_ok-sizes.sizes) (cc) (search rules) (none_read refl) c.in_ok-mark.ensures.took; same = search rules; ahead = search rules; longer = search rules; cap = search rules; goes = search rules }
 
-pub read-inside-returns-in-ok-mark-2 : goal.read-inside-returns-in-ok-mark-2
-read-inside-returns-in-ok-mark-2 t c =
+pub read_inside-returns-in_ok-mark-2 : goal.read_inside-returns-in_ok-mark-2
+read_inside-returns-in_ok-mark-2 t c =
     let q : mark Open ∷ said (ahead c.args.src.now) ≡ mark Open ∷ word (solid_word c.in-Some.form) ∷ said (ahead c.take.new.self) = search rules in
     let f = ap solid_word c.in-Place.is in
-    let v = c.in-ok-vector.ensures.took in
-    record { read = node_read (S.place c.in-Place.placement c.in-ok-vector.vector) (cc) c.push-reserved-in-Place.ensures.items c.in-ok-read-element.ensures.read c.in-ok-mark-2.ensures.took; same = search rules; ahead = search rules; longer = search rules; cap = search rules; goes = search rules }
+    let v = c.in_ok-vector.ensures.took in
+    record { read = node_read (S.place c.in-Place.placement c.in_ok-vector.vector) (cc) c.push_reserved-in-Place.ensures.items c.in_ok-read_element.ensures.read c.in_ok-mark-2.ensures.took; same = search rules; ahead = search rules; longer = search rules; cap = search rules; goes = search rules }
 
-pub read-inside-returns-in-ok-mark-3 : goal.read-inside-returns-in-ok-mark-3
-read-inside-returns-in-ok-mark-3 t c =
+pub read_inside-returns-in_ok-mark-3 : goal.read_inside-returns-in_ok-mark-3
+read_inside-returns-in_ok-mark-3 t c =
     let q : mark Open ∷ said (ahead c.args.src.now) ≡ mark Open ∷ word (solid_word c.in-Some.form) ∷ said (ahead c.take.new.self) = search rules in
     let f = ap solid_word c.in-Join.is in
-    record { read = node_read (S.join c.in-Join.operator) (cc) c.push-reserved-in-Join.ensures.items (one_read c.in-ok-read-element-2.ensures.read c.in-ok-read-element-3.ensures.read) c.in-ok-mark-3.ensures.took; same = search rules; ahead = search rules; longer = search rules; cap = search rules; goes = search rules }
+    record { read = node_read (S.join c.in-Join.operator) (cc) c.push_reserved-in-Join.ensures.items (one_read c.in_ok-read_element-2.ensures.read c.in_ok-read_element-3.ensures.read) c.in_ok-mark-3.ensures.took; same = search rules; ahead = search rules; longer = search rules; cap = search rules; goes = search rules }
 
-pub read-inside-returns-in-ok-mark-4 : goal.read-inside-returns-in-ok-mark-4
-read-inside-returns-in-ok-mark-4 t c =
+pub read_inside-returns-in_ok-mark-4 : goal.read_inside-returns-in_ok-mark-4
+read_inside-returns-in_ok-mark-4 t c =
     let q : mark Open ∷ said (ahead c.args.src.now) ≡ mark Open ∷ word (w.Fold) ∷ said (ahead c.take.new.self) = search rules in
-    let u = c.in-ok-union-word.ensures.took in
-    record { read = node_read S.fold (cc) c.push-reserved-in-Fold.ensures.items c.in-ok-read-list.ensures.read c.in-ok-mark-4.ensures.took; same = search rules; ahead = search rules; longer = search rules; cap = search rules; goes = search rules }
+    let u = c.in_ok-union_word.ensures.took in
+    record { read = node_read S.fold (cc) c.push_reserved-in-Fold.ensures.items c.in_ok-read_list.ensures.read c.in_ok-mark-4.ensures.took; same = search rules; ahead = search rules; longer = search rules; cap = search rules; goes = search rules }
 
-pub read-inside-list-returns-in-ok-mark : goal.read-inside-list-returns-in-ok-mark
-read-inside-list-returns-in-ok-mark t c =
+pub read_inside_list-returns-in_ok-mark : goal.read_inside_list-returns-in_ok-mark
+read_inside_list-returns-in_ok-mark t c =
     let q : mark Open ∷ said (ahead c.args.src.now) ≡ mark Open ∷ word (w.Repeat) ∷ said (ahead c.take.new.self) = search rules in
-    let k = c.in-ok-count-2.ensures.took in
-    record { read = node_read (S.repeat c.in-ok-count-2.count) (cc) (search rules) c.in-ok-read-element.ensures.read c.in-ok-mark.ensures.took; same = search rules; ahead = search rules; longer = search rules; cap = search rules; goes = search rules }
+    let k = c.in_ok-count-2.ensures.took in
+    record { read = node_read (S.repeat c.in_ok-count-2.count) (cc) (search rules) c.in_ok-read_element.ensures.read c.in_ok-mark.ensures.took; same = search rules; ahead = search rules; longer = search rules; cap = search rules; goes = search rules }
 
-pub read-inside-list-returns-in-ok-mark-2 : goal.read-inside-list-returns-in-ok-mark-2
-read-inside-list-returns-in-ok-mark-2 t c =
+pub read_inside_list-returns-in_ok-mark-2 : goal.read_inside_list-returns-in_ok-mark-2
+read_inside_list-returns-in_ok-mark-2 t c =
     let q : mark Open ∷ said (ahead c.args.src.now) ≡ mark Open ∷ word (w.Tabulate) ∷ said (ahead c.take.new.self) = search rules in
-    let k = c.in-ok-count-3.ensures.took in
-    record { read = node_read (S.tab c.in-ok-count-3.count) (cc) (search rules) c.in-ok-read-element-2.ensures.read c.in-ok-mark-2.ensures.took; same = search rules; ahead = search rules; longer = search rules; cap = search rules; goes = search rules }
+    let k = c.in_ok-count-3.ensures.took in
+    record { read = node_read (S.tab c.in_ok-count-3.count) (cc) (search rules) c.in_ok-read_element-2.ensures.read c.in_ok-mark-2.ensures.took; same = search rules; ahead = search rules; longer = search rules; cap = search rules; goes = search rules }
 
-pub read-inside-list-returns-in-ok-mark-3 : goal.read-inside-list-returns-in-ok-mark-3
-read-inside-list-returns-in-ok-mark-3 t c =
+pub read_inside_list-returns-in_ok-mark-3 : goal.read_inside_list-returns-in_ok-mark-3
+read_inside_list-returns-in_ok-mark-3 t c =
     let q : mark Open ∷ said (ahead c.args.src.now) ≡ mark Open ∷ word (w.Concat) ∷ said (ahead c.take.new.self) = search rules in
-    record { read = node_read S.concat (cc) c.push-reserved-in-Concat.ensures.items (one_read c.in-ok-read-list.ensures.read c.in-ok-read-list-2.ensures.read) c.in-ok-mark-3.ensures.took; same = search rules; ahead = search rules; longer = search rules; cap = search rules; goes = search rules }
+    record { read = node_read S.concat (cc) c.push_reserved-in-Concat.ensures.items (one_read c.in_ok-read_list.ensures.read c.in_ok-read_list-2.ensures.read) c.in_ok-mark-3.ensures.took; same = search rules; ahead = search rules; longer = search rules; cap = search rules; goes = search rules }
 
-pub read-elements-returns-then-is-close : goal.read-elements-returns-then-is-close
-read-elements-returns-then-is-close t c =
-    let m = closing_mark (token_of c.in-ok-token.token) (search rules) in
+pub read_elements-returns-then-is_close : goal.read_elements-returns-then-is_close
+read_elements-returns-then-is_close t c =
+    let m = closing_mark (token_of c.in_ok-token.token) (search rules) in
     let q : said (ahead c.args.src.now) ≡ mark Close ∷ said (ahead c.take.new.self) = search rules in
     record { read = none_read q; same = search rules; ahead = search rules; longer = search rules; cap = search rules; goes = search rules }
 
-pub read-elements-returns : goal.read-elements-returns
-read-elements-returns t c =
-    let n : closes (token_of c.in-ok-token.token) ≡ false = search rules in
-    record { read = more_read c.in-ok-count.count (also_read c.in-ok-token.ensures.takes.0 c.in-ok-element-from.ensures.read) c.in-ok-count.ensures.read; same = search rules; ahead = search rules; longer = search rules; cap = search rules; goes = λ gs. c.in-ok-token.ensures.takes.1 (elements (kind_of c.args.element) c.args.levels) gs (vec_len c.args.out.now) ∙ ap (λ m. moved m (run (ahead c.take.new.self)) (vec_len c.args.out.now) (span_of c.in-ok-token.token)) (one_more (kind_of c.args.element) c.args.levels gs (token_of c.in-ok-token.token) n) ∙ c.in-ok-element-from.ensures.goes (elements (kind_of c.args.element) c.args.levels ∷ gs) ∙ c.in-ok-count.ensures.goes gs }
+pub read_elements-returns : goal.read_elements-returns
+read_elements-returns t c =
+    let n : closes (token_of c.in_ok-token.token) ≡ false = search rules in
+    record { read = more_read c.in_ok-count.count (also_read c.in_ok-token.ensures.takes.0 c.in_ok-element_from.ensures.read) c.in_ok-count.ensures.read; same = search rules; ahead = search rules; longer = search rules; cap = search rules; goes = λ gs. c.in_ok-token.ensures.takes.1 (elements (kind_of c.args.element) c.args.levels) gs (vec_len c.args.out.now) ∙ ap (λ m. moved m (run (ahead c.take.new.self)) (vec_len c.args.out.now) (span_of c.in_ok-token.token)) (one_more (kind_of c.args.element) c.args.levels gs (token_of c.in_ok-token.token) n) ∙ c.in_ok-element_from.ensures.goes (elements (kind_of c.args.element) c.args.levels ∷ gs) ∙ c.in_ok-count.ensures.goes gs }
 
-pub read-inside-list-returns-in-ok-count : goal.read-inside-list-returns-in-ok-count
-read-inside-list-returns-in-ok-count t c =
+pub read_inside_list-returns-in_ok-count : goal.read_inside_list-returns-in_ok-count
+read_inside_list-returns-in_ok-count t c =
     let q : mark Open ∷ said (ahead c.args.src.now) ≡ mark Open ∷ word (w.List) ∷ said (ahead c.take.new.self) = search rules in
-    record { read = listed_read c.in-ok-count.count c.len-place.result (omega (arith, c.len-place.ensures, c.args.out.now.ok.0)) (cc) c.push-reserved.ensures.items c.in-ok-count.ensures.read (search rules); same = search rules; ahead = search rules; longer = search rules; cap = search rules; goes = search rules }
+    record { read = listed_read c.in_ok-count.count c.len-place.result (omega (arith, c.len-place.ensures, c.args.out.now.ok.0)) (cc) c.push_reserved.ensures.items c.in_ok-count.ensures.read (search rules); same = search rules; ahead = search rules; longer = search rules; cap = search rules; goes = search rules }
 
-pub read-inside-list-returns-in-ok-mark-4 : goal.read-inside-list-returns-in-ok-mark-4
-read-inside-list-returns-in-ok-mark-4 t c =
+pub read_inside_list-returns-in_ok-mark-4 : goal.read_inside_list-returns-in_ok-mark-4
+read_inside_list-returns-in_ok-mark-4 t c =
     let q : mark Open ∷ said (ahead c.args.src.now) ≡ mark Open ∷ word (w.Map2) ∷ said (ahead c.take.new.self) = search rules in
-    let p = c.in-ok-placement.ensures.took in
+    let p = c.in_ok-placement.ensures.took in
     let k = map2_solid c.args.element c.in-Some.form c.in-Some.ensures.1 c.in-Map2.is in
-    record { read = rw k (node_read (S.map2 c.in-ok-placement.placement) (cc) c.push-reserved-in-Map2.ensures.items (one_read c.in-ok-read-list-3.ensures.read c.in-ok-read-list-4.ensures.read) c.in-ok-mark-4.ensures.took); same = search rules; ahead = search rules; longer = search rules; cap = search rules; goes = search rules }
+    record { read = rw k (node_read (S.map2 c.in_ok-placement.placement) (cc) c.push_reserved-in-Map2.ensures.items (one_read c.in_ok-read_list-3.ensures.read c.in_ok-read_list-4.ensures.read) c.in_ok-mark-4.ensures.took); same = search rules; ahead = search rules; longer = search rules; cap = search rules; goes = search rules }
 
-pub solid-from-returns-in-Word-Empty-default-default : goal.solid-from-returns-in-Word-Empty-default-default
-solid-from-returns-in-Word-Empty-default-default t c =
+pub solid_from-returns-in-Word-Empty-default-default : goal.solid_from-returns-in-Word-Empty-default-default
+solid_from-returns-in-Word-Empty-default-default t c =
     let q : token_of c.args.token ≡ word w.Empty = search rules in
-    record { read = node_read S.empty (cc) c.push-reserved.ensures.items (none_read refl) refl; same = search rules; ahead = search rules; longer = search rules; cap = search rules; goes = search rules }
+    record { read = node_read S.empty (cc) c.push_reserved.ensures.items (none_read refl) refl; same = search rules; ahead = search rules; longer = search rules; cap = search rules; goes = search rules }
 
-pub solid-from-returns : goal.solid-from-returns
-solid-from-returns t c =
+pub solid_from-returns : goal.solid_from-returns
+solid_from-returns t c =
     let q : token_of c.args.token ≡ mark Open = search rules in
-    record { read = also_read (cc) c.in-ok-read-inside.ensures.read; same = search rules; ahead = search rules; longer = search rules; cap = search rules; goes = search rules }
+    record { read = also_read (cc) c.in_ok-read_inside.ensures.read; same = search rules; ahead = search rules; longer = search rules; cap = search rules; goes = search rules }

@@ -24,5 +24,5 @@ closed (v.Number j) e f g = absurd (g j refl)
 pub returns-in-Empty : goal.returns-in-Empty
 returns-in-Empty c = elim c.in-Empty.is [ inl e ↦ ap closing_count (sym e) | inr r ↦ elim r [ inl e ↦ ap closing_count (sym e.1) | inr e ↦ ap closing_count (sym e.1) ] ]
 
-pub returns-in-default : goal.returns-in-default
-returns-in-default c = closed c.args.node c.in-default.not-Empty c.in-default.not-Vector c.in-default.not-Number
+pub returns-in_default : goal.returns-in_default
+returns-in_default c = closed c.args.node c.in_default.not-Empty c.in_default.not-Vector c.in_default.not-Number

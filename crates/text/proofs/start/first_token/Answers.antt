@@ -11,10 +11,10 @@ use Rattle.model.proofs.Readable.{length_flatten}
 use Rattle.text.specs.Starting.{passed}
 use Rattle.text.proofs.start.first_token.Goals as goal
 
-pub walk-term-requires : goal.walk-term-requires
-walk-term-requires c =
+pub walk_term-requires : goal.walk_term-requires
+walk_term-requires c =
     let t = c.args.table.now in
-    let long = ap length c.as-slice-nodes.ensures.value in
+    let long = ap length c.as_slice-nodes.ensures.value in
     let same = ap length (program_nodes (vec_items t.nodes) t.program) in
     let sized = length_flatten (held t) in
     (omega (arith, c.size.ensures), omega (arith, t.few, t.nodes.ok.0))
@@ -25,7 +25,7 @@ returns c =
     let e = held t in
     let feed = feed_of c.args.text.now in
     let node = c.args.node in
-    let stands = c.as-slice-nodes.ensures.value ∙ sym (program_nodes (vec_items t.nodes) t.program) ∙ sym (append-nil (flatten e)) in
+    let stands = c.as_slice-nodes.ensures.value ∙ sym (program_nodes (vec_items t.nodes) t.program) ∙ sym (append-nil (flatten e)) in
     let few : node < size e = omega (arith, c.size.ensures) in
-    let count = (c.walk-term.ensures.walk (one solid) e [] stands).1 ∙ ap (passed e) (omega arith) ∙ sym (cond_below node (size e) (before e node) (length (tokens e)) few) in
-    c.span-after.ensures ∙ ap (nth_span feed) count ∙ cond_below node (size e) (nth_span feed (before e node)) None few
+    let count = (c.walk_term.ensures.walk (one solid) e [] stands).1 ∙ ap (passed e) (omega arith) ∙ sym (cond_below node (size e) (before e node) (length (tokens e)) few) in
+    c.span_after.ensures ∙ ap (nth_span feed) count ∙ cond_below node (size e) (nth_span feed (before e node)) None few

@@ -7,13 +7,13 @@ use Rattle.text.proofs.token.word_of.Goals as goal
 
 pub loop-word-preserved : goal.loop-word-preserved
 loop-word-preserved c =
-    let no = sym (c.if-same.ensures ∙ ap (bytes_eq c.args.run.now) c.spelling-of.ensures) in
+    let no = sym (c.if-same.ensures ∙ ap (bytes_eq c.args.run.now) c.spelling_of.ensures) in
     sym (among_no words c.args.run.now c.loop-word.word-index Empty (omega arith) no) ∙ c.loop-word.invariant
 
 pub returns-then-same : goal.returns-then-same
 unfolding word_of
 returns-then-same c =
-    let yes = sym (c.if-same.ensures ∙ ap (bytes_eq c.args.run.now) c.spelling-of.ensures) in
+    let yes = sym (c.if-same.ensures ∙ ap (bytes_eq c.args.run.now) c.spelling_of.ensures) in
     sym (among_yes words c.args.run.now c.loop-word.word-index Empty (omega arith) yes) ∙ c.loop-word.invariant
 
 pub returns : goal.returns

@@ -8,7 +8,7 @@ digit : (n : ℕ) → n < 10 → decimal n ≡ (n + 48) ∷ []
 digit n h = decimal_digit n h ∙ ap (λ d. d ∷ []) (add_comm 48 n)
 
 pub returns-then-n-lt10 : goal.returns-then-n-lt10
-returns-then-n-lt10 t c = rw (digit c.args.n (omega arith)) c.put-byte.ensures
+returns-then-n-lt10 t c = rw (digit c.args.n (omega arith)) c.put_byte.ensures
 
 pub returns : goal.returns
-returns t c = rw (last_digit c.args.n (omega arith) (omega arith)) (put_then c.put-decimal-next.ensures c.put-byte-2.ensures)
+returns t c = rw (last_digit c.args.n (omega arith) (omega arith)) (put_then c.put_decimal-next.ensures c.put_byte-2.ensures)

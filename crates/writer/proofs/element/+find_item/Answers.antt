@@ -7,13 +7,13 @@ use Rattle.writer.specs.Elements.{nodes_of, Holds, IsItem}
 use Rattle.writer.proofs.Items.{first_part, behind_part, in_list, in_repeat, in_tabulate, index_fits, in_left, in_right, no_list, no_vectors, in_map2}
 use Rattle.writer.proofs.element.+find_item.Goals as goal
 
-pub find-item-requires : goal.find-item-requires
-find-item-requires t c =
+pub find_item-requires : goal.find_item-requires
+find_item-requires t c =
     let first = first_part c.args.layout.now c.args.list c.part-first.result v.Concat c.in-Concat.ensures (omega arith) c.part-first.ensures in
     (omega (arith, first.0, ap (λ u. u.place) first.1), tt)
 
-pub find-item-requires-else-k-left : goal.find-item-requires-else-k-left
-find-item-requires-else-k-left t c =
+pub find_item-requires-else-k-left : goal.find_item-requires-else-k-left
+find_item-requires-else-k-left t c =
     let first = first_part c.args.layout.now c.args.list c.part-first.result v.Concat c.in-Concat.ensures (omega arith) c.part-first.ensures in
     (omega (arith, first.0, ap (λ u. u.place) first.1, c.next.ensures.ahead), tt)
 
@@ -61,9 +61,9 @@ returns-then-k-left t c =
     let here = c.in-Concat.ensures in
     let first = first_part c.args.layout.now c.args.list c.part-first.result v.Concat here (omega arith) c.part-first.ensures in
     record {
-      behind = behind_part nodes c.args.list c.part-first.result c.find-item.result first.0 (omega (arith, ap (λ u. u.place) first.1)) c.find-item.ensures.behind;
-      comes = λ k x has. c.find-item.ensures.comes k x
-          (in_left nodes c.args.list c.args.k k x has c.part-first.result c.measure-at-left.result first.1 here c.measure-at-left.ensures c.if-k-left.true);
+      behind = behind_part nodes c.args.list c.part-first.result c.find_item.result first.0 (omega (arith, ap (λ u. u.place) first.1)) c.find_item.ensures.behind;
+      comes = λ k x has. c.find_item.ensures.comes k x
+          (in_left nodes c.args.list c.args.k k x has c.part-first.result c.measure_at-left.result first.1 here c.measure_at-left.ensures c.if-k-left.true);
     }
 
 pub returns-else-k-left : goal.returns-else-k-left
@@ -72,10 +72,10 @@ returns-else-k-left t c =
     let here = c.in-Concat.ensures in
     let first = first_part c.args.layout.now c.args.list c.part-first.result v.Concat here (omega arith) c.part-first.ensures in
     record {
-      behind = behind_part nodes c.args.list c.next.result c.find-item-else-k-left.result first.0 (omega (arith, ap (λ u. u.place) first.1, c.next.ensures.ahead))
-          c.find-item-else-k-left.ensures.behind;
-      comes = λ k x has. c.find-item-else-k-left.ensures.comes k x
-          (in_right nodes c.args.list c.args.k k x has c.part-first.result c.next.result c.measure-at-left.result first.1 here c.measure-at-left.ensures
+      behind = behind_part nodes c.args.list c.next.result c.find_item-else-k-left.result first.0 (omega (arith, ap (λ u. u.place) first.1, c.next.ensures.ahead))
+          c.find_item-else-k-left.ensures.behind;
+      comes = λ k x has. c.find_item-else-k-left.ensures.comes k x
+          (in_right nodes c.args.list c.args.k k x has c.part-first.result c.next.result c.measure_at-left.result first.1 here c.measure_at-left.ensures
           c.next.ensures.after c.next.ensures.index c.if-k-left.false);
     }
 
@@ -92,10 +92,10 @@ returns-in-Map2 t c =
     ] in
     record { behind = (first.0, omega (arith, ap (λ u. u.place) first.1, c.next-solids.ensures.ahead)); comes = comes }
 
-pub returns-in-default : goal.returns-in-default
-returns-in-default t c =
+pub returns-in_default : goal.returns-in_default
+returns-in_default t c =
     record {
       behind = tt;
-      comes = λ k x has. no_list (nodes_of c.args.layout.now) c.args.list.place has.list has.begins c.node-at.result c.node-at.ensures
-          c.in-default.not-List c.in-default.not-Repeat c.in-default.not-Tabulate c.in-default.not-Concat c.in-default.not-Map2;
+      comes = λ k x has. no_list (nodes_of c.args.layout.now) c.args.list.place has.list has.begins c.node_at.result c.node_at.ensures
+          c.in_default.not-List c.in_default.not-Repeat c.in_default.not-Tabulate c.in_default.not-Concat c.in_default.not-Map2;
     }

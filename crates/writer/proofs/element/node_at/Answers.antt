@@ -5,4 +5,4 @@ use Rattle.writer.proofs.element.node_at.Goals as goal
 
 pub returns-else-place-nodes : goal.returns-else-place-nodes
 returns-else-place-nodes c =
-    sym (get_or_past c.as-slice-nodes.result.now c.args.place Empty c.if-place-nodes.false) ∙ ap (λ l. get_or l c.args.place Empty) c.as-slice-nodes.ensures.value
+    sym (get_or_past c.as_slice-nodes.result.now c.args.place Empty c.if-place-nodes.false) ∙ ap (λ l. get_or l c.args.place Empty) c.as_slice-nodes.ensures.value

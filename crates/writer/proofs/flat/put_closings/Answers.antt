@@ -7,7 +7,7 @@ pub loop-init : goal.loop-init
 loop-init c = put_none c.args.out.now c.args.at (omega arith)
 
 pub loop-preserved : goal.loop-preserved
-loop-preserved c = put_as (replicate_more c.loop.counter 41) (put_then c.loop.invariant c.put-byte-next.ensures)
+loop-preserved c = put_as (replicate_more c.loop.counter 41) (put_then c.loop.invariant c.put_byte-next.ensures)
 
 pub returns : goal.returns
 returns c = put_as (ap (λ n. replicate n 41) (omega arith)) c.loop.invariant

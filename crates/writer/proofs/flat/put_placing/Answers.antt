@@ -8,5 +8,5 @@ use Rattle.writer.proofs.flat.put_placing.Goals as goal
 
 pub returns : goal.returns
 returns c =
-    put_as (ap (λ l. (40 ∷ (l ++ (32 ∷ spells true (bracket (still (exact c.args.v)))))) ++ (32 ∷ [])) c.placement-name.ensures)
-    (put_then (put_then c.put-open-next.ensures (put_then c.put-byte-next.ensures c.put-triple-next.ensures)) c.put-byte.ensures)
+    put_as (ap (λ l. (40 ∷ (l ++ (32 ∷ spells true (bracket (still (exact c.args.v)))))) ++ (32 ∷ [])) c.placement_name.ensures)
+    (put_then (put_then c.put_open-next.ensures (put_then c.put_byte-next.ensures c.put_triple-next.ensures)) c.put_byte.ensures)

@@ -14,4 +14,4 @@ returns c =
     let q = still (exact c.args.sizes) in
     let k = widened c.from.result c.args.kind c.ranges.kind c.from.ensures in
     put_as (ap (λ z. opening_text (v.Primitive z q) ++ (41 ∷ [])) k ∙ sym (text_node (prim c.args.kind q) none))
-    (put_then (put_then c.put-bytes-next.ensures (put_then c.put-signed-next.ensures (put_then c.put-byte-next.ensures c.put-triple-next.ensures))) c.put-byte.ensures)
+    (put_then (put_then c.put_bytes-next.ensures (put_then c.put_signed-next.ensures (put_then c.put_byte-next.ensures c.put_triple-next.ensures))) c.put_byte.ensures)

@@ -15,4 +15,4 @@ returns c =
     let y = to_z-of_z w128 v.y fy in
     let z = to_z-of_z w128 v.z fz in
     put_as (λ i. 91 ∷ (signed_decimal (x i) ++ (44 ∷ (signed_decimal (y i) ++ (44 ∷ (signed_decimal (z i) ++ (93 ∷ [])))))))
-    (put_then c.put-byte-next.ensures (put_then c.put-signed-next.ensures (put_then c.put-byte-next-2.ensures (put_then c.put-signed-next-2.ensures (put_then c.put-byte-next-3.ensures (put_then c.put-signed-next-3.ensures c.put-byte.ensures))))))
+    (put_then c.put_byte-next.ensures (put_then c.put_signed-next.ensures (put_then c.put_byte-next-2.ensures (put_then c.put_signed-next-2.ensures (put_then c.put_byte-next-3.ensures (put_then c.put_signed-next-3.ensures c.put_byte.ensures))))))

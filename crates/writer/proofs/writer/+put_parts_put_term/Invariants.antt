@@ -4,13 +4,13 @@ use Rattle.writer.specs.Writing.{PartsPut}
 use Rattle.writer.proofs.writer.+put_parts_put_term.Given as goal
 
 -- who puts the expressions that are left has put them all
-abbrev pub invariant-put-parts-loop : goal.invariant-put-parts-loop
-invariant-put-parts-loop l =
+abbrev pub invariant-put_parts-loop : goal.invariant-put_parts-loop
+invariant-put_parts-loop l =
     (l.initial.next.place ≤ l.next.place) × (l.next.at < 2 ^ 64)
     × ((r : Spot) (new : List ℕ) → PartsPut l.nodes l.next (l.count - l.counter) l.out r new → PartsPut l.nodes l.initial.next l.count l.initial.out r new)
 
-abbrev pub decreases-put-parts : goal.decreases-put-parts
-decreases-put-parts l = 2 * (length l.nodes.now - l.from.place) + 1
+abbrev pub decreases-put_parts : goal.decreases-put_parts
+decreases-put_parts l = 2 * (length l.nodes.now - l.from.place) + 1
 
-abbrev pub decreases-put-term : goal.decreases-put-term
-decreases-put-term l = 2 * (length l.nodes.now - l.from.place)
+abbrev pub decreases-put_term : goal.decreases-put_term
+decreases-put_term l = 2 * (length l.nodes.now - l.from.place)

@@ -20,4 +20,4 @@ returns c =
     let q = to_z-of_z w64 v.slope.y gy in
     let r = to_z-of_z w64 v.slope.z gz in
     put_as (λ i. 91 ∷ (numeral (x i) (p i) ++ (44 ∷ (numeral (y i) (q i) ++ (44 ∷ (numeral (z i) (r i) ++ (93 ∷ [])))))))
-    (put_then c.put-byte-next.ensures (put_then c.put-number-next.ensures (put_then c.put-byte-next-2.ensures (put_then c.put-number-next-2.ensures (put_then c.put-byte-next-3.ensures (put_then c.put-number-next-3.ensures c.put-byte.ensures))))))
+    (put_then c.put_byte-next.ensures (put_then c.put_number-next.ensures (put_then c.put_byte-next-2.ensures (put_then c.put_number-next-2.ensures (put_then c.put_byte-next-3.ensures (put_then c.put_number-next-3.ensures c.put_byte.ensures))))))

@@ -27,5 +27,5 @@ returns-in-Empty c =
     let none : [] ≡ closing_text c.args.node = elim c.in-Empty.is [ inl e ↦ ap closing_text (sym e) | inr r ↦ elim r [ inl e ↦ ap closing_text (sym e.1) | inr e ↦ ap closing_text (sym e.1) ] ] in
     put_as none (put_none c.args.out.now c.args.at (omega arith))
 
-pub returns-in-default : goal.returns-in-default
-returns-in-default c = put_as (closed c.args.node c.in-default.not-Empty c.in-default.not-Vector c.in-default.not-Number) c.put-byte.ensures
+pub returns-in_default : goal.returns-in_default
+returns-in_default c = put_as (closed c.args.node c.in_default.not-Empty c.in_default.not-Vector c.in_default.not-Number) c.put_byte.ensures

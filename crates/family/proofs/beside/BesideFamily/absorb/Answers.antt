@@ -16,14 +16,14 @@ returns g c =
     elim c.if-primitive-eq0.branch [
       | then-primitive-eq0 w ↦
           let side : r.kind % 2 ≡ 0 = w.if-primitive-eq0.true in
-          c.of-kind.ensures
+          c.of_kind.ensures
           ∙ ap (option_map (of_kind r.kind)) (w.absorbed-is ∙ w.absorb-absorbed.ensures ∙ ap (λ (q : Primitive). m.absorbed q f) c.own-own.ensures)
           ∙ raised m (g.F.Family.lawful c.args.self.now.first) 0 r f side
           ∙ sym (cond-true (is_first r) _ _ (eq-eqb (r.kind % 2) 0 side))
       | else-primitive-eq0 w ↦
           let ne : r.kind % 2 ≡ 0 → ⊥ = w.if-primitive-eq0.false in
           let side : r.kind % 2 ≡ 1 = omega arith in
-          c.of-kind.ensures
+          c.of_kind.ensures
           ∙ ap (option_map (of_kind r.kind)) (w.absorbed-is ∙ w.absorb-absorbed-else-primitive-eq0.ensures ∙ ap (λ (q : Primitive). n.absorbed q f) c.own-own.ensures)
           ∙ raised n (g.G.Family.lawful c.args.self.now.second) 1 r f side
           ∙ sym (cond-false (is_first r) _ _ (ne_eqb (r.kind % 2) 0 ne))

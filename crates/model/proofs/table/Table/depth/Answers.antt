@@ -10,5 +10,5 @@ unfolding flattens depths
 returns c =
     let t = c.args.self.now in
     let e = program (vec_items t.nodes) in
-    let stands = c.as-slice-nodes.ensures.value ∙ sym (program_nodes (vec_items t.nodes) t.program) ∙ sym (append-nil (flatten e)) ∙ sym (append-nil (flatten e ++ [])) in
-    omega (arith, (c.parts-extent.ensures.extent (one solid ∷ []) (more e none) [] refl stands).1)
+    let stands = c.as_slice-nodes.ensures.value ∙ sym (program_nodes (vec_items t.nodes) t.program) ∙ sym (append-nil (flatten e)) ∙ sym (append-nil (flatten e ++ [])) in
+    omega (arith, (c.parts_extent.ensures.extent (one solid ∷ []) (more e none) [] refl stands).1)

@@ -3,14 +3,14 @@ use Rattle.model.specs.declared.node.Node.TheVariants as v
 use Rattle.model.specs.Held.{whole, program}
 use Rattle.model.proofs.table.Table.new.Goals as goal
 
-pub invariant-of-result : goal.invariant-of-result
+pub invariant_of-result : goal.invariant_of-result
 unfolding whole
-invariant-of-result c =
-    let q : vec_items c.push-reserved.new.self ≡ v.Empty ∷ [] = search rules in
+invariant_of-result c =
+    let q : vec_items c.push_reserved.new.self ≡ v.Empty ∷ [] = search rules in
     (ap whole q, (search rules, (search rules, (search rules, (search rules, tt)))))
 
 pub returns : goal.returns
 unfolding program
 returns c =
-    let q : vec_items c.push-reserved.new.self ≡ v.Empty ∷ [] = search rules in
+    let q : vec_items c.push_reserved.new.self ≡ v.Empty ∷ [] = search rules in
     ap program q

@@ -9,8 +9,8 @@ pub returns : goal.returns
 returns c =
     let ours = c.args.self.now in
     let theirs = c.args.other.now in
-    let a = c.as-slice.ensures.value in
-    let b = c.as-slice-2.ensures.value in (
-      λ r. ap program (sym a ∙ c.same-nodes.ensures.0 r ∙ b),
-      λ q. c.same-nodes.ensures.1 (a ∙ sym (program_nodes (vec_items ours.nodes) ours.program) ∙ ap flatten q ∙ program_nodes (vec_items theirs.nodes) theirs.program ∙ sym b),
+    let a = c.as_slice.ensures.value in
+    let b = c.as_slice-2.ensures.value in (
+      λ r. ap program (sym a ∙ c.same_nodes.ensures.0 r ∙ b),
+      λ q. c.same_nodes.ensures.1 (a ∙ sym (program_nodes (vec_items ours.nodes) ours.program) ∙ ap flatten q ∙ program_nodes (vec_items theirs.nodes) theirs.program ∙ sym b),
     )

@@ -18,7 +18,7 @@ loop-law-preserved g c orderless =
     let m = g.F.Family.meaning c.args.family.now in
     let e = held c.args.self.now.table in
     let kept = c.loop-law.invariant orderless in
-    below_more _ _ kept (sym (c.in-default.ensures orderless (kept_before m e c.loop-law.law-index (omega arith) kept)))
+    below_more _ _ kept (sym (c.in_default.ensures orderless (kept_before m e c.loop-law.law-index (omega arith) kept)))
 
 pub returns : goal.returns
 returns g c orderless = no_fault (g.F.Family.meaning c.args.family.now) (held c.args.self.now.table) c.loop-law.law-index (omega arith) (c.loop-law.invariant orderless)

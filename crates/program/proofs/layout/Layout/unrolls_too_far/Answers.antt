@@ -10,5 +10,5 @@ use Rattle.program.proofs.layout.Layout.unrolls_too_far.Goals as goal
 pub returns : goal.returns
 returns c =
     let l = c.args.self.now in
-    let told = c.measure-at.ensures ∙ ap (λ ms. get_or ms 0 nothing) c.as-slice.ensures.value ∙ tells_whole l in
+    let told = c.measure_at.ensures ∙ ap (λ ms. get_or ms 0 nothing) c.as_slice.ensures.value ∙ tells_whole l in
     ap (λ (t : Measure). ltb most_unrolled t.unrolled) told ∙ past_cap (weight (held l.table))

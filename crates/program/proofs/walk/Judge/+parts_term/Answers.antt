@@ -13,13 +13,13 @@ parts-returns-then-count-eq0 g t c =
     elim c.then-count-eq0.branch [ parts-then-count-eq0-via-then-count-eq0 w ↦ inl w.if-count-eq0.true | parts-then-count-eq0-via-else-count-eq0+then-place-self w ↦ inr w.if-place-self.true ] in
     record { within = (omega arith, c.requires); judged = parts_none (g.F.Family.meaning j.family.now) j.law j.nodes.now j.measures.now c.args.place c.args.count c.args.context why }
 
-pub parts-returns-in-err-next : goal.parts-returns-in-err-next
-parts-returns-in-err-next g t c =
+pub parts-returns-in_err-next : goal.parts-returns-in_err-next
+parts-returns-in_err-next g t c =
     let j = c.args.self.now in
     let m = g.F.Family.meaning j.family.now in
-    let n = c.in-err-next.field-0.0 in
+    let n = c.in_err-next.field-0.0 in
     let broken : c.from-residual.result ≡ Err n = search rules in
-    let p = parts_broken m j.law j.nodes.now j.measures.now c.args.place c.args.count n c.args.context (λ z. omega arith) c.in-err-next.ensures.judged in
+    let p = parts_broken m j.law j.nodes.now j.measures.now c.args.place c.args.count n c.args.context (λ z. omega arith) c.in_err-next.ensures.judged in
     record { within = search rules; judged = subst (PartsJudged m j.law j.nodes.now j.measures.now c.args.place c.args.count c.args.context) (sym broken) p }
 
 pub parts-returns : goal.parts-returns
@@ -28,7 +28,7 @@ parts-returns g t c =
     let m = g.F.Family.meaning j.family.now in
     record {
       within = search rules;
-      judged = parts_more m j.law j.nodes.now j.measures.now c.args.place c.args.count c.in-ok-next.next c.args.context c.parts.result (λ z. omega arith) c.in-ok-next.ensures.judged c.parts.ensures.judged;
+      judged = parts_more m j.law j.nodes.now j.measures.now c.args.place c.args.count c.in_ok-next.next c.args.context c.parts.result (λ z. omega arith) c.in_ok-next.ensures.judged c.parts.ensures.judged;
     }
 
 pub term-returns-then-breaks : goal.term-returns-then-breaks
@@ -37,7 +37,7 @@ term-returns-then-breaks g t c =
     let m = g.F.Family.meaning j.family.now in
     let n = get_or j.nodes.now c.args.place Empty in
     let here = drop_more j.nodes.now c.args.place Empty c.requires in
-    let test : Tested m j.law j.nodes.now j.measures.now c.args.place c.args.context n true = λ cs k p. c.if-breaks.ensures cs (subst (λ x. Counted x n cs) (sym c.counts-at.ensures) k) p in
+    let test : Tested m j.law j.nodes.now j.measures.now c.args.place c.args.context n true = λ cs k p. c.if-breaks.ensures cs (subst (λ x. Counted x n cs) (sym c.counts_at.ensures) k) p in
     record { within = tt; judged = term_broken m j.law j.nodes.now j.measures.now c.args.place c.args.context n here test }
 
 pub term-returns : goal.term-returns
@@ -47,7 +47,7 @@ term-returns g t c =
     let n = get_or j.nodes.now c.args.place Empty in
     let here = drop_more j.nodes.now c.args.place Empty c.requires in
     let short : length j.nodes.now < 2 ^ 63 = search rules in
-    let test : Tested m j.law j.nodes.now j.measures.now c.args.place c.args.context n false = λ cs k p. c.if-breaks.ensures cs (subst (λ x. Counted x n cs) (sym c.counts-at.ensures) k) p in
+    let test : Tested m j.law j.nodes.now j.measures.now c.args.place c.args.context n false = λ cs k p. c.if-breaks.ensures cs (subst (λ x. Counted x n cs) (sym c.counts_at.ensures) k) p in
     let inner = subst (λ x. PartsJudged m j.law j.nodes.now j.measures.now (c.args.place + 1) c.parts.result x c.parts-2.result) c.below.ensures c.parts-2.ensures.judged in
     record {
       within = search rules;

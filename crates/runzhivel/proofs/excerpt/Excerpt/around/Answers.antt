@@ -7,9 +7,9 @@ returns c =
     let text = c.args.text.now in
     let within : c.min-at.result ≤ length text = omega (arith, c.min-at.ensures) in
     record {
-      front = take c.shown-from-from.result text;
-      back = drop c.shown-to-to.result text;
-      parts = four text _ _ _ c.shown-from-from.ensures c.shown-to-to.ensures.0;
-      place = two_lengths text _ _ c.shown-from-from.ensures within ∙ c.min-at.ensures;
-      marks = c.max.ensures ∙ ap (λ n. max n 1) (c.min.ensures ∙ ap (min c.args.span.len) (sym (one_length text _ _ c.shown-to-to.ensures.0 c.shown-to-to.ensures.1)));
+      front = take c.shown_from-from.result text;
+      back = drop c.shown_to-to.result text;
+      parts = four text _ _ _ c.shown_from-from.ensures c.shown_to-to.ensures.0;
+      place = two_lengths text _ _ c.shown_from-from.ensures within ∙ c.min-at.ensures;
+      marks = c.max.ensures ∙ ap (λ n. max n 1) (c.min.ensures ∙ ap (min c.args.span.len) (sym (one_length text _ _ c.shown_to-to.ensures.0 c.shown_to-to.ensures.1)));
     }

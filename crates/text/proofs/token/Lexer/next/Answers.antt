@@ -9,36 +9,36 @@ use Rattle.text.proofs.token.Lexer.next.Goals as goal
 pub returns-then-self-text : goal.returns-then-self-text
 returns-then-self-text c = record {
   same = refl;
-  nexts = feed_end c.args.self.now.text.now c.args.self.now.at c.run-end-self.result c.run-end-self.ensures.value c.if-self-text.true;
+  nexts = feed_end c.args.self.now.text.now c.args.self.now.at c.run_end-self.result c.run_end-self.ensures.value c.if-self-text.true;
 }
 
-pub returns-in-err-token : goal.returns-in-err-token
-returns-in-err-token c =
+pub returns-in_err-token : goal.returns-in_err-token
+returns-in_err-token c =
     let t = c.args.self.now.text.now in
-    let bad = c.in-err-token.ensures in
+    let bad = c.in_err-token.ensures in
     let p = err_from_is_err_and c.from-residual.result c.from-residual.ensures.1 in
     rw (p.1, p.2)
     (record {
       same = refl;
-      nexts = (bad.0, bad.1, feed_token t c.args.self.now.at c.run-end-self.result c.run-end-self.ensures.value (omega arith) ∙ ap (λ x. fed x (feed t)) bad.2);
+      nexts = (bad.0, bad.1, feed_token t c.args.self.now.at c.run_end-self.result c.run_end-self.ensures.value (omega arith) ∙ ap (λ x. fed x (feed t)) bad.2);
     })
 
-pub overflow-add-self : goal.overflow-add-self
-overflow-add-self c =
-    let m = got_ahead c.args.self.now.text.now c.run-end-self.result _ _ c.span-span.result (omega arith) c.in-ok-token.ensures c.span-span.ensures in
+pub overflow_add-self : goal.overflow_add-self
+overflow_add-self c =
+    let m = got_ahead c.args.self.now.text.now c.run_end-self.result _ _ c.span-span.result (omega arith) c.in_ok-token.ensures c.span-span.ensures in
     omega (arith, m.1)
 
 pub returns : goal.returns
 returns c =
     let t = c.args.self.now.text.now in
-    let token = c.in-ok-token.token in
-    let m = got_ahead t c.run-end-self.result _ _ c.span-span.result (omega arith) c.in-ok-token.ensures c.span-span.ensures in
-    let first = feed_token t c.args.self.now.at c.run-end-self.result c.run-end-self.ensures.value (omega arith) ∙ ap (λ x. fed x (feed t)) c.in-ok-token.ensures in
+    let token = c.in_ok-token.token in
+    let m = got_ahead t c.run_end-self.result _ _ c.span-span.result (omega arith) c.in_ok-token.ensures c.span-span.ensures in
+    let first = feed_token t c.args.self.now.at c.run_end-self.result c.run_end-self.ensures.value (omega arith) ∙ ap (λ x. fed x (feed t)) c.in_ok-token.ensures in
     record {
       same = refl;
       nexts = (
         first ∙ ap (λ x. F.token (token_of token) (span_of token) (feed t (x.at + x.len))) (sym c.span-span.ensures),
-        omega (arith, m.0, c.run-end-self.ensures.value),
+        omega (arith, m.0, c.run_end-self.ensures.value),
         m.1,
       );
     }
