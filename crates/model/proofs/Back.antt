@@ -1,9 +1,8 @@
 -- The run over a program's tokens, exactly, and the first node past a limit. Assumes nothing.
-use Rattle.std.proofs.Common.{◌≡◌, ℕ, zero, suc, ◌+◌, ◌-◌, ◌<◌, ◌≤◌, Bool, true, false, cond, ltb, List, [], ◌∷◌, ◌++◌, length, replicate, sym, refl, ap, ◌∙◌, subst, append_assoc, arith, length-append}
+use Rattle.std.proofs.Common.{◌≡◌, ℕ, zero, suc, ◌+◌, ◌-◌, ◌<◌, ◌≤◌, Bool, true, false, cond, ltb, List, [], ◌∷◌, ◌++◌, length, replicate, sym, refl, ap, ◌∙◌, subst, arith, length-append}
 use mathlib.Core.Path.{fun_ext}
 use mathlib.Core.Option.{Option, some}
 use mathlib.Core.Option as O
-use lib.ListN.{length-map}
 use Rattle.std.proofs.lemmas.Bool.{cond-true, and_parts, and_from, ltb-true, lt-ltb}
 use Rattle.model.specs.Limits.{most_levels}
 use Rattle.model.specs.declared.node.Placement.TheVariants as by
@@ -17,10 +16,10 @@ use Rattle.model.specs.Tokens.{Token, opening, closing, tokens, row}
 use Rattle.model.specs.Tokens as T
 use Rattle.model.specs.Feed.{Feed, token, bad, end, said, Clean}
 use Rattle.model.specs.Grammar.{Goal, element, elements, mark, run, room, Outcome, whole, refused, judged}
-use Rattle.model.specs.Readings.{alone, firsts, firsts_in, first_over, ReadsBack, Within}
+use Rattle.model.specs.Readings.{firsts, firsts_in, first_over, ReadsBack, Within}
 use Rattle.model.proofs.Once.{clash, fewer, one_reading}
 use Rattle.model.proofs.Derive.{wanted, first_textual, parts_textual, no_number}
-use Rattle.model.proofs.Stops.{fed, start, whole_reading}
+use Rattle.model.proofs.Stops.{fed, whole_reading}
 
 fed_append : (sp : ℕ → Span) (i : ℕ) (us vs : List Token) (f : Feed) → fed sp i (us ++ vs) f ≡ fed sp i us (fed sp (i + length us) vs f)
 fed_append sp i [] vs f = ap (λ j. fed sp j vs f) (omega arith)

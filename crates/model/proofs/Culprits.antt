@@ -1,5 +1,5 @@
 -- The node that breaks a law is one of the program's, and begins with one of its tokens. Assumes nothing.
-use Rattle.std.proofs.Common.{◌≡◌, ℕ, zero, suc, ◌+◌, ◌-◌, ◌<◌, ◌≤◌, Bool, true, false, cond, ◌||◌, ltb, ◌⊎◌, List, [], ◌∷◌, ◌++◌, length, is_some, Some, None, Option, sym, refl, ap, ◌∙◌, inl, inr, arith, length-append}
+use Rattle.std.proofs.Common.{◌≡◌, ℕ, zero, suc, ◌+◌, ◌-◌, ◌<◌, ◌≤◌, Bool, true, false, cond, ◌||◌, ltb, List, [], ◌∷◌, ◌++◌, length, Some, None, Option, refl, inl, inr, arith, length-append}
 use Rattle.std.specs.Option.{option_or}
 use Rattle.std.proofs.lemmas.Bool.Decides.{leb_tells}
 use Rattle.model.specs.Limits.{most_nodes, most_levels, most_unrolled}
@@ -7,14 +7,13 @@ use Rattle.model.specs.declared.law.Law.{Law}
 use Rattle.model.specs.declared.law.Law.TheVariants.{Size, Loops, Numbers, Primitives, Pairs, Lengths}
 use Rattle.model.specs.declared.law.Fault.{Fault}
 use Rattle.model.specs.declared.law.Context.{Context}
-use Rattle.model.specs.declared.refusal.Span.{Span}
 use Rattle.model.specs.Families.{Meaning}
 use Rattle.model.specs.Syntax.{Sort, Head, empty, prim, place, join, fold, vec, list, repeat, tab, concat, sort, unsort, map2, number, Expr, Exprs, node, none, more, Solid, size, sizes, depth}
 use Rattle.model.specs.Nodes.{node_of}
 use Rattle.model.specs.Counts.{counts}
 use Rattle.model.specs.Legality.{root, below, breaks, first, firsts, culprit, laws, told, first_fault, fault}
 use Rattle.model.specs.Unrolling.{unroll}
-use Rattle.model.specs.Tokens.{Token, tokens, row, opening, closing}
+use Rattle.model.specs.Tokens.{tokens, row, opening, closing}
 use Rattle.model.specs.Feed.{Feed, token, bad, end, said}
 use Rattle.model.specs.Starts.{before, befores, nth_span}
 

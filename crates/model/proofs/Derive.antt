@@ -1,5 +1,5 @@
 -- Goals as the tokens that they stand for, and the token with which these begin. Assumes nothing.
-use Rattle.std.proofs.Common.{◌≡◌, ℕ, zero, suc, ◌-◌, true, List, [], ◌∷◌, ◌++◌, replicate, ℤ, sym, refl, ◌∙◌, subst}
+use Rattle.std.proofs.Common.{◌≡◌, ℕ, zero, suc, true, List, [], ◌∷◌, ◌++◌, replicate, ℤ, sym, refl, ◌∙◌, subst}
 use Rattle.std.proofs.lemmas.Bool.{and_parts}
 use Rattle.model.specs.declared.node.Placement.{Placement}
 use Rattle.model.specs.declared.node.Placement.TheVariants as by

@@ -1,9 +1,12 @@
 -- The derived `==` of nodes decides whether they are equal. Assumes nothing.
-use Rattle.std.proofs.Common.{◌≡◌, Bool, true, false, Decides, sym, refl, subst, rules}
+use Rattle.std.proofs.Common.{◌≡◌, ℤ, Bool, true, Decides, refl, subst, ap}
+use Rattle.std.proofs.lemmas.Bool.Decides.{Decides-int_eq, Decides-eqb, Decides-and, Decides-like}
 use Rattle.model.specs.declared.node.Node.{Node}
 use Rattle.model.specs.declared.node.Node.TheVariants as v
 use Rattle.model.specs.declared.node.Placement.{Placement}
+use Rattle.model.specs.declared.node.Placement.TheVariants as p
 use Rattle.model.specs.declared.node.Operator.{Operator}
+use Rattle.model.specs.declared.node.Operator.TheVariants as o
 use Rattle.model.specs.declared.node.Triple.{Triple}
 use Rattle.model.specs.declared.node.Linear.{Linear}
 use Rattle.model.specs.contracts.node.PlacementPartialEq.TheImpl as placement
@@ -12,54 +15,80 @@ use Rattle.model.specs.contracts.node.TriplePartialEq.TheImpl as triple
 use Rattle.model.specs.contracts.node.LinearPartialEq.TheImpl as linear
 use Rattle.model.specs.contracts.node.NodePartialEq.TheImpl as node
 
-nt : false ≡ true → ⊥
-nt e = search rules
+-- a test decides it whose truth gives the equation, and that holds of a value and itself
+decides_by : {A : Type 0} (f : A → A → Bool) → ((a b : A) → f a b ≡ true → a ≡ b) → ((a : A) → f a a ≡ true) → (a b : A) → Decides (f a b) (a ≡ b)
+decides_by {A} f same self a b = (same a b, λ q. subst (λ (x : A). f a x ≡ true) q (self a))
 
--- no value is told to differ from itself
-tw : (a : Triple) → (false ≡ (triple.ghosts).eq a a) → ⊥
-tw a e = e (λ h. nt (h.1 refl)) (λ h. nt (h.1 refl)) (λ h. nt (h.1 refl))
+triples : (a b : Triple) → Decides ((triple.ghosts).eq a b) (a ≡ b)
+triples a b =
+    Decides-like _ (λ h. λ i. record { x = h.0 i; y = h.1.0 i; z = h.1.1 i }) (λ q. (ap (λ t. t.x) q, (ap (λ t. t.y) q, ap (λ t. t.z) q)))
+    (Decides-and _ _ (Decides-int_eq a.x b.x) (Decides-and _ _ (Decides-int_eq a.y b.y) (Decides-int_eq a.z b.z)))
 
-lw : (a : Linear) → (false ≡ (linear.ghosts).eq a a) → ⊥
-lw a e = e (tw a.constant) (tw a.slope)
+linears : (a b : Linear) → Decides ((linear.ghosts).eq a b) (a ≡ b)
+linears a b =
+    Decides-like _ (λ h. λ i. record { constant = h.0 i; slope = h.1 i }) (λ q. (ap (λ t. t.constant) q, ap (λ t. t.slope) q))
+    (Decides-and _ _ (triples a.constant b.constant) (triples a.slope b.slope))
 
-pw : (a : Placement) → (false ≡ (placement.ghosts).eq a a) → ⊥
-pw a e = e refl
+placements : (a b : Placement) → (placement.ghosts).eq a b ≡ true → a ≡ b
+placements p.Translate p.Translate e = refl
+placements p.Scale p.Scale e = refl
+placements p.Rotate p.Rotate e = refl
+placements a b e = cc
 
-ow : (a : Operator) → (false ≡ (operator.ghosts).eq a a) → ⊥
-ow a e = e refl
+placement_self : (a : Placement) → (placement.ghosts).eq a a ≡ true
+placement_self p.Translate = refl
+placement_self p.Scale = refl
+placement_self p.Rotate = refl
 
-right : (a b : Node) → (true ≡ (node.ghosts).eq a b) → a ≡ b
-right v.Empty b e = search rules
-right (v.Primitive k a) b e = search rules
-right (v.Place t a) b e = search rules
-right (v.Join o) b e = search rules
-right v.Fold b e = search rules
-right (v.Vector a) b e = search rules
-right (v.List n) b e = search rules
-right (v.Repeat n) b e = search rules
-right (v.Tabulate n) b e = search rules
-right v.Concat b e = search rules
-right (v.Sort n) b e = search rules
-right (v.Unsort n) b e = search rules
-right (v.Map2 t) b e = search rules
-right (v.Number j) b e = search rules
+operators : (a b : Operator) → (operator.ghosts).eq a b ≡ true → a ≡ b
+operators o.Union o.Union e = refl
+operators o.Diff o.Diff e = refl
+operators o.Inter o.Inter e = refl
+operators a b e = cc
 
-wrong : (a : Node) → (false ≡ (node.ghosts).eq a a) → ⊥
-wrong v.Empty e = search rules
-wrong (v.Primitive k a) e = e (λ h. nt (h.1 refl)) (lw a)
-wrong (v.Place t a) e = e (pw t) (lw a)
-wrong (v.Join o) e = ow o e
-wrong v.Fold e = search rules
-wrong (v.Vector a) e = lw a e
-wrong (v.List n) e = nt (e.1 refl)
-wrong (v.Repeat n) e = nt (e.1 refl)
-wrong (v.Tabulate n) e = nt (e.1 refl)
-wrong v.Concat e = search rules
-wrong (v.Sort n) e = nt (e.1 refl)
-wrong (v.Unsort n) e = nt (e.1 refl)
-wrong (v.Map2 t) e = pw t e
-wrong (v.Number j) e = nt (e.1 refl)
+operator_self : (a : Operator) → (operator.ghosts).eq a a ≡ true
+operator_self o.Union = refl
+operator_self o.Diff = refl
+operator_self o.Inter = refl
 
-pub decided : (a b : Node) (r : Bool) → (r ≡ (node.ghosts).eq a b) → Decides r (a ≡ b)
-decided a b true h = (λ e. right a b h, λ e. refl)
-decided a b false h = (λ e. let z : ◌≡◌ {A = Bool} false true = e in absurd (search rules), λ e. absurd (wrong a (subst (λ x. false ≡ (node.ghosts).eq a x) (sym e) h)))
+sized : (k m : ℤ) (a b : Linear) → Decides ((node.ghosts).eq (v.Primitive k a) (v.Primitive m b)) ((k ≡ m) × (a ≡ b))
+sized k m a b = Decides-and _ _ (Decides-int_eq k m) (linears a b)
+
+placed : (t u : Placement) (a b : Linear) → Decides ((node.ghosts).eq (v.Place t a) (v.Place u b)) ((t ≡ u) × (a ≡ b))
+placed t u a b = Decides-and _ _ (decides_by (placement.ghosts).eq placements placement_self t u) (linears a b)
+
+same : (a b : Node) → (node.ghosts).eq a b ≡ true → a ≡ b
+same v.Empty v.Empty e = refl
+same (v.Primitive k a) (v.Primitive m b) e = let h = (sized k m a b).0 e in λ i. v.Primitive (h.0 i) (h.1 i)
+same (v.Place t a) (v.Place u b) e = let h = (placed t u a b).0 e in λ i. v.Place (h.0 i) (h.1 i)
+same (v.Join o) (v.Join p) e = ap v.Join (operators o p e)
+same v.Fold v.Fold e = refl
+same (v.Vector a) (v.Vector b) e = ap v.Vector ((linears a b).0 e)
+same (v.List n) (v.List m) e = ap v.List ((Decides-eqb n m).0 e)
+same (v.Repeat n) (v.Repeat m) e = ap v.Repeat ((Decides-int_eq n m).0 e)
+same (v.Tabulate n) (v.Tabulate m) e = ap v.Tabulate ((Decides-int_eq n m).0 e)
+same v.Concat v.Concat e = refl
+same (v.Sort n) (v.Sort m) e = ap v.Sort ((Decides-eqb n m).0 e)
+same (v.Unsort n) (v.Unsort m) e = ap v.Unsort ((Decides-eqb n m).0 e)
+same (v.Map2 t) (v.Map2 u) e = ap v.Map2 (placements t u e)
+same (v.Number i) (v.Number j) e = ap v.Number ((Decides-eqb i j).0 e)
+same a b e = cc
+
+self : (a : Node) → (node.ghosts).eq a a ≡ true
+self v.Empty = refl
+self (v.Primitive k a) = (sized k k a a).1 (refl, refl)
+self (v.Place t a) = (placed t t a a).1 (refl, refl)
+self (v.Join o) = operator_self o
+self v.Fold = refl
+self (v.Vector a) = (linears a a).1 refl
+self (v.List n) = (Decides-eqb n n).1 refl
+self (v.Repeat n) = (Decides-int_eq n n).1 refl
+self (v.Tabulate n) = (Decides-int_eq n n).1 refl
+self v.Concat = refl
+self (v.Sort n) = (Decides-eqb n n).1 refl
+self (v.Unsort n) = (Decides-eqb n n).1 refl
+self (v.Map2 t) = placement_self t
+self (v.Number j) = (Decides-eqb j j).1 refl
+
+pub decided : (a b : Node) → Decides ((node.ghosts).eq a b) (a ≡ b)
+decided = decides_by (node.ghosts).eq same self

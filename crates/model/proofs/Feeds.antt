@@ -1,5 +1,5 @@
 -- One token of a text after another. Assumes nothing.
-use Rattle.std.proofs.Common.{◌≡◌, ℕ, zero, suc, ◌+◌, ◌-◌, ◌<◌, ◌≤◌, Bool, true, false, cond, ◌||◌, eqb, leb, List, [], ◌∷◌, length, get_or, take, drop, ℤ, Some, None, Option, sym, refl, ap, ◌∙◌, subst, arith, length-drop}
+use Rattle.std.proofs.Common.{◌≡◌, ℕ, zero, suc, ◌+◌, ◌-◌, ◌<◌, ◌≤◌, Bool, true, false, ◌||◌, eqb, leb, List, length, get_or, drop, ℤ, Some, None, Option, sym, refl, ap, ◌∙◌, subst, arith, length-drop}
 use borrow.Author.Tests.{false-leb}
 use Rattle.std.specs.Option.{option_map}
 use Rattle.std.specs.Char.{is_ascii_alphabetic, is_ascii_digit}
@@ -10,11 +10,11 @@ use Rattle.std.proofs.lemmas.Bool.{or_left, cond_both, cond-true, cond-false, le
 use Rattle.model.specs.declared.refusal.Span.{Span}
 use Rattle.model.specs.declared.word.Word.{Word}
 use Rattle.model.specs.declared.word.Mark.{Mark}
-use Rattle.model.specs.Bytes.{is_sep, in_word, in_number, starts_number, word_of, mark_of, number_of, Small}
+use Rattle.model.specs.Bytes.{in_word, in_number, starts_number, word_of, mark_of, number_of, Small}
 use Rattle.model.specs.Feed.{Feed}
 use Rattle.model.specs.Feed as F
 use Rattle.model.specs.Lexing.{Step, got, bad, end, run, stands, word_at, number_at, token_at, past_seps, step_at, fed, feeds, feed, number_token, SmallToken}
-use Rattle.model.specs.Tokens.{Token, word, number, mark}
+use Rattle.model.specs.Tokens.{Token, word, mark}
 use Rattle.model.proofs.Numbers.{number_small}
 
 -- a token ends past byte i, and within the text's n bytes

@@ -3,8 +3,8 @@ use Rattle.std.proofs.Common.{◌≡◌, Bool, true, false, List, [], ◌∷◌,
 use mathlib.Core.Option.{Option, some}
 use Rattle.model.specs.declared.node.Node.{Node}
 use Rattle.model.specs.Syntax.{Sort, one, solid, Head, arity, Expr, Exprs, node, none, more, Solid}
-use Rattle.model.specs.Nodes.{node_of, flatten, flattens}
-use Rattle.model.specs.Held.{Headed, head_at, sorted_on, sorted, whole, spares, fore, aft, only, read_on, read, program}
+use Rattle.model.specs.Nodes.{flatten, flattens}
+use Rattle.model.specs.Held.{Headed, head_at, sorted_on, sorted, whole, fore, aft, only, read_on, read, program}
 use Rattle.model.proofs.Readable.{headed, reads_all}
 
 nt : false ≡ true → ⊥

@@ -1,9 +1,9 @@
 -- Lists in a proper order. Assumes nothing.
-use Rattle.std.proofs.Common.{◌≡◌, ℕ, zero, suc, ◌+◌, ◌*◌, ◌<◌, ◌≤◌, Bool, true, false, cond, T, eqb, ltb, List, [], ◌∷◌, map, length, get_or, sym, refl, ap, ◌∙◌, subst, ap₂, inl, inr, add-mul, one-mul, zero-mul, arith, eqb→eq, ext_get_or, rules}
+use Rattle.std.proofs.Common.{◌≡◌, ℕ, zero, suc, ◌+◌, ◌*◌, ◌<◌, ◌≤◌, Bool, true, false, cond, eqb, ltb, List, [], ◌∷◌, map, length, get_or, sym, refl, ap, ◌∙◌, subst, ap₂, inl, inr, add-mul, one-mul, zero-mul, arith, ext_get_or, rules}
 use lib.ListN.{length-map}
 use Rattle.std.proofs.lemmas.Bool.{cases_order, and_parts}
 use Rattle.std.proofs.lemmas.Bool.Decides.{nat_tests}
-use Rattle.model.specs.Shapes.{from, place_of, sorted, unsorted}
+use Rattle.model.specs.Shapes.{place_of, sorted, unsorted}
 use Rattle.model.specs.Syntax.{Sort, Head, arity, empty, prim, place, join, fold, vec, list, repeat, tab, concat, sort, unsort, map2, number, Expr, Exprs, node, none, more, textual_head, textual, textuals}
 use Rattle.model.specs.Orders.{times_in, Order, Proper, Ordered, AllOrdered}
 use Rattle.model.proofs.Sequences.{at_from, length_from}

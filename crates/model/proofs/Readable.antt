@@ -1,5 +1,5 @@
 -- The list of nodes says what the expression is. Assumes nothing.
-use Rattle.std.proofs.Common.{◌≡◌, suc, ◌+◌, List, [], ◌∷◌, ◌++◌, length, sym, refl, ap, ◌∙◌, ap₂, append_assoc, append-nil, length-append}
+use Rattle.std.proofs.Common.{◌≡◌, suc, ◌+◌, List, ◌++◌, length, sym, refl, ap, ◌∙◌, ap₂, append_assoc, length-append}
 use mathlib.Core.Path.{path_j}
 use mathlib.Core.List.{head-eq_of_cons-eq, tail-eq_of_cons-eq}
 use mathlib.Core.Option.{Option, some}

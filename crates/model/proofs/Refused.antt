@@ -1,5 +1,5 @@
 -- Where each refusal stands. Assumes nothing.
-use Rattle.std.proofs.Common.{◌≡◌, ℕ, suc, ◌+◌, ◌≤◌, List, [], ◌∷◌, ◌++◌, length, sym, ap, ◌∙◌, append_assoc, arith}
+use Rattle.std.proofs.Common.{◌≡◌, ℕ, suc, ◌+◌, ◌≤◌, List, [], ◌∷◌, length, sym, ap, ◌∙◌, append_assoc, arith}
 use mathlib.Core.Option.{Option, some}
 use mathlib.Core.Option as O
 use lib.ListN.{length-map}
@@ -8,7 +8,7 @@ use Rattle.model.specs.Limits.{most_levels}
 use Rattle.model.specs.declared.refusal.Span.{Span}
 use Rattle.model.specs.declared.refusal.Refusal.TheVariants.{NoToken, NoSolid, TooLarge}
 use Rattle.model.specs.Syntax.{size}
-use Rattle.model.specs.Tokens.{Token, tokens}
+use Rattle.model.specs.Tokens.{Token}
 use Rattle.model.specs.Feed.{end}
 use Rattle.model.specs.Grammar.{Goal, Move, stuck, on, node, move, moved, run, room, Outcome, whole, refused}
 use Rattle.model.specs.Readings.{alone, firsts, first_over, RoomFor, FirstStop, FirstBad, FirstOver}

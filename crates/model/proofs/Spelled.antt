@@ -1,6 +1,5 @@
 -- A text is the texts of its nodes' own tokens, with a space before each part, and what its length is. Assumes nothing.
-use Rattle.std.proofs.Common.{◌≡◌, ℕ, suc, ◌+◌, ◌≤◌, Bool, true, false, not, ◌||◌, List, [], ◌∷◌, ◌++◌, length, ℤ, pos, negsuc, codes, decimal, sum_by, sym, refl, ap, ◌∙◌, append_assoc, append-nil, arith, length-append}
-use Rattle.std.specs.List.{AllByRecursion as All}
+use Rattle.std.proofs.Common.{◌≡◌, ℕ, suc, ◌+◌, ◌≤◌, Bool, true, false, not, ◌||◌, List, [], ◌∷◌, ◌++◌, length, ℤ, pos, negsuc, decimal, sum_by, sym, refl, ap, ◌∙◌, append_assoc, append-nil, arith, length-append}
 use Rattle.std.specs.Fmt.{signed_decimal}
 use Rattle.std.proofs.lemmas.Fmt.{length-decimal-le}
 use Rattle.std.proofs.ByRecursion.{All-weaker, sum_by_le}
@@ -17,7 +16,6 @@ use Rattle.model.specs.Syntax.{Sort, Head, arity, Expr, Exprs, node, none, more,
 use Rattle.model.specs.Syntax as S
 use Rattle.model.specs.Nodes.{node_of, flatten, flattens}
 use Rattle.model.specs.Tokens.{Token, bracket, placement_word, operator_word, opening, closing, tokens, row}
-use Rattle.model.specs.Tokens as T
 use Rattle.model.specs.Bytes.{spelling, is_zero, change, numeral, Small}
 use Rattle.model.proofs.Readable.{length_flatten}
 use Rattle.model.specs.Spelling.{spell_token, tight_after, tight_before, gap, spells, text_of, part_texts, opening_text, closing_text, own_length, TextLength, SevenLinear, SevenNode, ShortText}

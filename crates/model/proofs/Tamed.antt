@@ -1,19 +1,18 @@
 -- A legal program has no large number at any index. Assumes nothing.
-use Rattle.std.proofs.Common.{◌≡◌, ℕ, zero, suc, ◌+◌, ◌%◌, ◌<◌, ◌≤◌, Bool, true, false, cond, not, ◌&&◌, ◌||◌, eqb, ltb, List, [], ◌∷◌, ◌++◌, map, length, get_or, replicate, ℤ, nat_abs, Some, None, Option, sym, refl, ap, ◌∙◌, subst, ap₂, inl, inr, arith, rules}
+use Rattle.std.proofs.Common.{◌≡◌, ℕ, zero, suc, ◌+◌, ◌%◌, ◌<◌, ◌≤◌, Bool, true, false, not, ◌||◌, eqb, ltb, List, [], ◌∷◌, ◌++◌, map, length, get_or, replicate, ℤ, nat_abs, Some, None, Option, refl, ap, ◌∙◌, subst, ap₂, inl, inr, arith, rules}
 use Rattle.std.proofs.lemmas.Bool.{and_from}
 use Rattle.std.proofs.lemmas.Bool.Decides.{leb_tells}
 use Rattle.model.specs.declared.law.Context.{Context}
 use Rattle.model.specs.declared.law.Law.TheVariants.{Numbers}
 use Rattle.model.specs.declared.node.Placement.{Placement}
 use Rattle.model.specs.declared.node.Placement.TheVariants.{Translate, Scale, Rotate}
-use Rattle.model.specs.declared.node.Operator.TheVariants.{Union}
 use Rattle.model.specs.declared.node.Triple.{Triple}
 use Rattle.model.specs.declared.node.Linear.{Linear}
 use Rattle.model.specs.Families.{Meaning}
 use Rattle.model.specs.Syntax.{Kind, solid, vector, Sort, one, many, num, Head, arity, empty, prim, place, join, fold, vec, list, repeat, tab, concat, sort, unsort, map2, number, Expr, Exprs, node, none, more, Solid, size}
 use Rattle.model.specs.Nodes.{node_of}
 use Rattle.model.specs.Placements.{at}
-use Rattle.model.specs.Shapes.{Shape, Val, Den, Dens, row, order, past, run, runs, made_of, union_of, from, zip_with, sorted, unsorted, idle, place_of, natural}
+use Rattle.model.specs.Shapes.{Val, Den, Dens, row, order, past, run, runs, made_of, union_of, from, zip_with, idle, place_of, natural}
 use Rattle.model.specs.Counts.{counts}
 use Rattle.model.specs.Legality.{root, below, indices, some_of, some_axis, beyond, nonzero, unfit, wild, unkind, breaks, first, firsts, Legal}
 use Rattle.model.specs.Tame.{small_vector, taming, tame}

@@ -1,12 +1,10 @@
 -- The outcome of a text, in the words of programs. Assumes nothing.
 use Rattle.std.proofs.Common.{◌≡◌, ℕ, suc, ◌<◌, ◌≤◌, Bool, true, false, cond, ltb, List, length, sym, refl, ap, ◌∙◌, subst, inl, inr, arith, ltb-true}
 use borrow.Author.Tests.{false-leb}
-use Rattle.std.proofs.lemmas.Bool.{cond-true}
 use Rattle.model.specs.Limits.{most_bytes}
-use Rattle.model.specs.declared.refusal.Span.{Span}
 use Rattle.model.specs.declared.refusal.Refusal.{Refusal}
 use Rattle.model.specs.declared.refusal.Refusal.TheVariants.{NoToken, NoSolid, TooLarge}
-use Rattle.model.specs.Syntax.{Solid, textual, size, depth}
+use Rattle.model.specs.Syntax.{Solid, textual, size}
 use Rattle.model.specs.Tokens.{tokens}
 use Rattle.model.specs.Feed.{said}
 use Rattle.model.specs.Grammar.{Outcome, whole, refused, judged}

@@ -2,10 +2,10 @@
 use Rattle.std.proofs.Common.{◌≡◌, ℕ, ℤ, pos, ◌+ℤ◌, refl, ap, ◌∙◌}
 use lib.IntN.{+ℤ_idr, *ℤ-zero}
 use Rattle.model.specs.declared.node.Triple.{Triple}
-use Rattle.model.specs.Placements.{at, triple, still, linear, placed}
+use Rattle.model.specs.Placements.{at, triple, still, linear}
 use Rattle.model.specs.Shapes.{Shape, run, runs}
 use Rattle.model.specs.Syntax.{Solid}
-use Rattle.model.specs.Unrolling.{programs, unroll, values, value, primitive, UnrolledValues}
+use Rattle.model.specs.Unrolling.{programs, unroll, values, value, UnrolledValues}
 use Rattle.model.proofs.Related.{keeps_run}
 
 -- a vector without slope is the same at every index

@@ -1,5 +1,5 @@
 -- What stands behind a node: the parts of the expression that begins with it. Assumes nothing.
-use Rattle.std.proofs.Common.{◌≡◌, List, [], ◌∷◌, ◌++◌, sym, refl, ap, ◌∙◌}
+use Rattle.std.proofs.Common.{◌≡◌, List, ◌∷◌, ◌++◌, refl}
 use mathlib.Core.Path.{path_j}
 use mathlib.Core.List.{head-eq_of_cons-eq, tail-eq_of_cons-eq}
 use Rattle.model.specs.declared.node.Node.{Node}

@@ -1,12 +1,12 @@
 -- The nodes of an unrolling are counted without it. Assumes nothing.
-use Rattle.std.proofs.Common.{◌≡◌, ℕ, zero, suc, ◌+◌, ◌-◌, ◌*◌, min, Bool, true, false, cond, not, ◌&&◌, eqb, List, [], ◌∷◌, ◌++◌, length, get_or, replicate, ℤ, Some, None, Option, sym, refl, ap, ◌∙◌, subst, ap₂, inl, inr, suc-mul, mul-zero, zero-mul, arith, rules}
+use Rattle.std.proofs.Common.{◌≡◌, ℕ, zero, suc, ◌+◌, ◌-◌, ◌*◌, Bool, true, false, cond, not, eqb, List, [], ◌∷◌, ◌++◌, length, replicate, Some, None, Option, sym, refl, ap, ◌∙◌, subst, ap₂, inl, inr, suc-mul, mul-zero, zero-mul, arith, rules}
 use Rattle.std.specs.Option.{option_or}
 use Rattle.std.proofs.lemmas.Bool.Decides.{eqb_tells}
 use Rattle.model.specs.declared.node.Triple.{Triple}
 use Rattle.model.specs.declared.law.Context.{Context}
 use Rattle.model.specs.declared.law.Law.TheVariants.{Pairs}
 use Rattle.model.specs.Families.{Meaning}
-use Rattle.model.specs.Syntax.{Kind, solid, vector, Sort, one, many, num, Head, arity, empty, prim, place, join, fold, vec, list, repeat, tab, concat, sort, unsort, map2, number, Expr, Exprs, node, none, more, Solid, size, sizes}
+use Rattle.model.specs.Syntax.{solid, vector, Sort, one, many, num, Head, arity, empty, prim, place, join, fold, vec, list, repeat, tab, concat, sort, unsort, map2, number, Expr, Exprs, node, none, more, Solid, size, sizes}
 use Rattle.model.specs.Nodes.{node_of}
 use Rattle.model.specs.Held.{only}
 use Rattle.model.specs.Orders.{Order, order_in, behind, Proper, Ordered, AllOrdered}

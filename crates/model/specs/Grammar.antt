@@ -1,5 +1,5 @@
 -- What may stand next in a text, and the first place where a text goes wrong. Assumes nothing.
-use Rattle.std.specs.Prelude.{ℕ, ◌+◌, ◌-◌, Bool, true, false, cond, ◌&&◌, List, [], ◌∷◌, ◌++◌, ℤ, pos, negsuc, ◌==◌, nat_lt}
+use Rattle.std.specs.Prelude.{ℕ, ◌+◌, ◌-◌, Bool, cond, ◌&&◌, List, [], ◌∷◌, ℤ, pos, negsuc, ◌==◌, nat_lt}
 use Rattle.model.specs.Limits.{most_nodes, most_levels}
 use Rattle.model.specs.declared.word.Word.{Word}
 use Rattle.model.specs.declared.word.Word.TheVariants as w

@@ -3,8 +3,6 @@ use Rattle.std.specs.Prelude.{◌≡◌, Bool, true, false, List, [], ◌∷◌,
 use Rattle.std.proofs.Math.Option.{Option, some}
 use Rattle.model.specs.declared.node.Node.{Node}
 use Rattle.model.specs.declared.node.Node.TheVariants as v
-use Rattle.model.specs.declared.node.Linear.{Linear}
-use Rattle.model.specs.declared.node.Triple.{Triple}
 use Rattle.model.specs.Syntax.{Kind, solid, vector, Sort, one, many, num, Head, arity, Expr, Exprs, node, none, more, Solid}
 use Rattle.model.specs.Syntax as S
 use Rattle.model.specs.Nodes.{node_of}

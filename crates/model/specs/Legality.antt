@@ -1,5 +1,5 @@
 -- Which programs are legal, and which law one breaks first. Assumes nothing.
-use Rattle.std.specs.Prelude.{◌≡◌, ℕ, zero, suc, ◌+◌, ◌%◌, Bool, true, false, cond, not, ◌&&◌, ◌||◌, List, [], ◌∷◌, ℤ, pos, negsuc, is_some, Some, None, Option, ◌==◌, int_le, nat_lt, slice_index, unsigned_abs}
+use Rattle.std.specs.Prelude.{◌≡◌, ℕ, suc, ◌+◌, ◌%◌, Bool, false, cond, not, ◌&&◌, ◌||◌, List, [], ◌∷◌, ℤ, pos, is_some, Some, None, Option, ◌==◌, int_le, nat_lt, slice_index, unsigned_abs}
 use Rattle.std.specs.Option.{option_or}
 use Rattle.model.specs.Limits.{most_nodes, most_levels, most_elements, most_unrolled}
 use Rattle.model.specs.declared.law.Law.{Law}

@@ -1,6 +1,6 @@
 -- Places: nodes are numbered from 0 in reading order. Assumes nothing.
-use Rattle.std.specs.Prelude.{ℕ, zero, suc, ◌+◌, List, [], ◌∷◌}
-use Rattle.model.specs.Syntax.{Sort, Head, arity, Expr, Exprs, node, none, more, size}
+use Rattle.std.specs.Prelude.{ℕ, suc, ◌+◌, List, ◌∷◌}
+use Rattle.model.specs.Syntax.{Sort, Head, arity, Expr, Exprs, node, more, size}
 
 -- putting y for the x at a place of an expression gives another
 mutual

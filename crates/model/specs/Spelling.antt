@@ -1,5 +1,5 @@
 -- How a program is written: its tokens as bytes, the spaces between them, and the length of a text. Assumes nothing.
-use Rattle.std.specs.Prelude.{◌≡◌, ℕ, suc, ◌+◌, ◌≤◌, Bool, true, false, cond, ◌||◌, List, [], ◌∷◌, ◌++◌, length, pos, sum_by}
+use Rattle.std.specs.Prelude.{◌≡◌, ℕ, ◌+◌, ◌≤◌, Bool, true, false, ◌||◌, List, [], ◌∷◌, ◌++◌, length, pos, sum_by}
 use Rattle.std.specs.List.{AllByRecursion as All}
 use Rattle.model.specs.Limits.{most_bytes, most_nodes}
 use Rattle.model.specs.declared.node.Linear.{Linear}

@@ -1,8 +1,7 @@
 -- Programs: one node form, whose head says its sort and the sorts of its parts. Assumes nothing.
-use Rattle.std.specs.Prelude.{ℕ, suc, ◌+◌, max, Bool, true, false, ◌&&◌, List, [], ◌∷◌, ◌++◌, length, replicate, ℤ, pos}
+use Rattle.std.specs.Prelude.{ℕ, suc, ◌+◌, max, Bool, true, false, ◌&&◌, List, [], ◌∷◌, ◌++◌, replicate, ℤ}
 use Rattle.model.specs.declared.node.Placement.{Placement}
 use Rattle.model.specs.declared.node.Operator.{Operator}
-use Rattle.model.specs.declared.node.Triple.{Triple}
 use Rattle.model.specs.declared.node.Linear.{Linear}
 
 -- what a list holds

@@ -1,5 +1,5 @@
 -- Programs whose unrolling has no large number. Assumes nothing.
-use Rattle.std.specs.Prelude.{Bool, true, not, ◌&&◌, ℤ}
+use Rattle.std.specs.Prelude.{Bool, true, not, ◌&&◌}
 use Rattle.model.specs.declared.node.Triple.{Triple}
 use Rattle.model.specs.Syntax.{Solid}
 use Rattle.model.specs.Shapes.{Shape, run}

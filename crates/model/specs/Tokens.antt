@@ -1,5 +1,5 @@
 -- The tokens of a program. Assumes nothing.
-use Rattle.std.specs.Prelude.{ℕ, List, [], ◌∷◌, ◌++◌, ℤ, pos}
+use Rattle.std.specs.Prelude.{List, [], ◌∷◌, ◌++◌, ℤ, pos}
 use Rattle.model.specs.declared.node.Placement.{Placement}
 use Rattle.model.specs.declared.node.Placement.TheVariants as p
 use Rattle.model.specs.declared.node.Operator.{Operator}

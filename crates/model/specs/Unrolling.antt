@@ -1,6 +1,5 @@
 -- The unrolling of a program, and its values at points. Assumes nothing.
-use Rattle.std.specs.Prelude.{◌≡◌, ℕ, Bool, true, false, not, ◌&&◌, ◌||◌, ℤ, refl}
-use Rattle.model.specs.declared.node.Placement.{Placement}
+use Rattle.std.specs.Prelude.{◌≡◌, Bool, true, false, not, ◌&&◌, ◌||◌, ℤ, refl}
 use Rattle.model.specs.declared.node.Operator.{Operator}
 use Rattle.model.specs.declared.node.Operator.TheVariants.{Union, Diff, Inter}
 use Rattle.model.specs.declared.node.Triple.{Triple}

@@ -1,7 +1,6 @@
-use Rattle.std.proofs.Common.{◌≡◌, ℕ, ◌^◌, ◌<◌, ◌≤◌, ◌⊎◌, length, get_or, sym, ap, subst, inl, inr, arith, rules}
+use Rattle.std.proofs.Common.{◌≡◌, ℕ, ◌^◌, ◌<◌, ◌≤◌, ◌⊎◌, length, get_or, sym, subst, arith, rules}
 use Rattle.std.proofs.lemmas.List.{drop_more}
 use Rattle.model.specs.declared.node.Node.TheVariants.{Empty}
-use Rattle.model.specs.declared.depth.Extent.{Extent}
 use Rattle.model.specs.Depths.{PartsExtent}
 use Rattle.model.proofs.Extents.{term_extent, parts_none, parts_more}
 use Rattle.model.proofs.extent.+parts_extent_term_extent.Goals as goal

@@ -1,4 +1,4 @@
-use Rattle.std.proofs.Common.{◌≡◌, length, get_or, take, sym, refl, ap, ◌∙◌, arith, rules}
+use Rattle.std.proofs.Common.{length, get_or, sym, refl, ap, ◌∙◌, arith, rules}
 use Rattle.std.proofs.lemmas.List.{take_more_same, take_all}
 use Rattle.model.specs.declared.node.Node.TheVariants.{Empty}
 use Rattle.model.proofs.same.same_nodes.Goals as goal

@@ -1,4 +1,4 @@
-use Rattle.std.proofs.Common.{◌≡◌, [], ◌∷◌, ◌++◌, vec_items, sym, refl, ap, ◌∙◌, append-nil, arith}
+use Rattle.std.proofs.Common.{[], ◌∷◌, ◌++◌, vec_items, sym, refl, ◌∙◌, append-nil, arith}
 use Rattle.model.specs.Syntax.{one, solid, none, more, depths}
 use Rattle.model.specs.Nodes.{flatten, flattens}
 use Rattle.model.specs.Held.{program}

@@ -1,4 +1,4 @@
-use Rattle.std.proofs.Common.{◌≡◌, vec_items, sym, refl, ap, ◌∙◌}
+use Rattle.std.proofs.Common.{vec_items, sym, ap, ◌∙◌}
 use Rattle.model.specs.Nodes.{flatten}
 use Rattle.model.specs.Held.{program}
 use Rattle.model.proofs.Holding.{program_nodes}
