@@ -1,5 +1,5 @@
 -- Tests under a positive factor. Assumes nothing.
-use Rattle.std.specs.Prelude.{◌≡◌, ℕ, suc, ◌*◌, ◌<◌, Bool, true, false, ◌&&◌, ℤ, pos, negsuc, ◌*ℤ◌, ◌<ℤ◌, Some, None, ◌≢◌, int_le, refl}
+use Rattle.std.specs.Prelude.{◌≡◌, ℕ, ◌<◌, Bool, ◌&&◌, ℤ, pos, negsuc, ◌*ℤ◌, ◌<ℤ◌, Some, None, ◌≢◌, int_le, refl}
 use Rattle.std.proofs.Common.{sym, ◌∙◌, ap, inl, inr, mul-le-mul_left, mul-add, arith}
 use Rattle.std.proofs.Math.Nat.{mul-lt-mul_of_pos_left}
 use borrow.Author.Differences.{product_is, le-true, le-false, true_is_le, false_is_le, ints}
