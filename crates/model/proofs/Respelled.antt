@@ -4,7 +4,7 @@ use Rattle.std.specs.Option.{option_map}
 use Rattle.std.specs.Str.Parse.{AllDigits}
 use Rattle.std.specs.Char.{is_ascii_alphabetic, digit_value}
 use Rattle.std.specs.Fmt.{signed_decimal}
-use Rattle.std.specs.List.{prefix_len, AllByRecursion as All}
+use Rattle.std.specs.List.{prefix_len, AllByRecursion}
 use Rattle.std.proofs.lemmas.Fmt.{decimal_is_IsNumeral}
 use Rattle.std.proofs.ByRecursion.{All-append}
 use Rattle.std.proofs.lemmas.List.{get_or_at, take_at, drop_at, length-append}
@@ -28,7 +28,7 @@ use Rattle.model.proofs.Words.{word_back}
 
 -- each byte passes
 abbrev Pass : (ℕ → Bool) → List ℕ → Type 0
-Pass p xs = All (λ b. p b ≡ true) xs
+Pass p xs = AllByRecursion (λ b. p b ≡ true) xs
 
 -- no byte, or a first one that does not pass
 abbrev Stops : (ℕ → Bool) → List ℕ → Type 0
@@ -205,7 +205,7 @@ abbrev Says : Feed → List Token → Type 0
 Says f ts = Clean f × (said f ≡ ts)
 
 -- tokens read back from any place of a text
-says_back : (b : Bool) (ts : List Token) (pre : List ℕ) → All SmallToken ts → Says (feed (pre ++ spells b ts) (length pre)) ts
+says_back : (b : Bool) (ts : List Token) (pre : List ℕ) → AllByRecursion SmallToken ts → Says (feed (pre ++ spells b ts) (length pre)) ts
 says_back b [] pre h =
     let s = length (pre ++ []) in
     subst (λ f. Says f []) (sym (feed_end (pre ++ []) (length pre) s (skipped true pre [] refl) (omega arith))) (tt, refl)

@@ -1,6 +1,6 @@
 -- How a program is written: its tokens as bytes, the spaces between them, and the length of a text. Assumes nothing.
 use Rattle.std.specs.Prelude.{◌≡◌, ℕ, ◌+◌, ◌≤◌, Bool, true, false, ◌||◌, List, [], ◌∷◌, ◌++◌, length, pos, sum_by}
-use Rattle.std.specs.List.{AllByRecursion as All}
+use Rattle.std.specs.List.{AllByRecursion}
 use Rattle.model.specs.Limits.{most_bytes, most_nodes}
 use Rattle.model.specs.declared.node.Linear.{Linear}
 use Rattle.model.specs.declared.node.Node.{Node}
@@ -115,7 +115,7 @@ SevenNode (v.Map2 t) = Unit {0}
 SevenNode (v.Number j) = Small (pos j)
 
 abbrev pub SevenDigits : {s : Sort} → Expr s → Type 0
-SevenDigits e = All SevenNode (flatten e)
+SevenDigits e = AllByRecursion SevenNode (flatten e)
 
 -- a program with such numbers is short
 abbrev pub ShortText : Type 0

@@ -1,6 +1,6 @@
 -- What is written is read back, and what is read can be written. Assumes nothing.
 use Rattle.std.specs.Prelude.{◌≡◌, ℕ, ◌≤◌, true, List}
-use Rattle.std.specs.List.{AllByRecursion as All}
+use Rattle.std.specs.List.{AllByRecursion}
 use Rattle.model.specs.Limits.{most_nodes, most_levels}
 use Rattle.model.specs.Syntax.{Solid, textual, size, depth}
 use Rattle.model.specs.Tokens.{Token}
@@ -11,7 +11,7 @@ use Rattle.model.specs.Texts.{feed_of, Accepts}
 
 -- tokens whose numbers have at most seven digits read back from their bytes
 abbrev pub LexesBack : Type 0
-LexesBack = (ts : List Token) → All SmallToken ts → Clean (feed_of (spells true ts)) × (said (feed_of (spells true ts)) ≡ ts)
+LexesBack = (ts : List Token) → AllByRecursion SmallToken ts → Clean (feed_of (spells true ts)) × (said (feed_of (spells true ts)) ≡ ts)
 
 -- the text of a program within the limits says that program
 abbrev pub WrittenReads : Type 0

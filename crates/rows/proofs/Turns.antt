@@ -1,6 +1,6 @@
 -- A turn of the loop over the lines of a text. Assumes nothing.
 use Rattle.std.proofs.Common.{◌≡◌, ℕ, suc, ◌+◌, ◌<◌, false, eqb, List, [], ◌∷◌, ◌++◌, length, get_or, take, drop, sym, ap, ◌∙◌, subst, add-zero, arith}
-use Rattle.std.specs.List.{prefix_len, AllByRecursion as All}
+use Rattle.std.specs.List.{prefix_len, AllByRecursion}
 use Rattle.std.proofs.ByRecursion.{All-more}
 use Rattle.std.proofs.lemmas.List.{get_or-drop, drop-drop, length-drop, take_more, take_all, flat_map_more, nil_from_length}
 use Rattle.std.proofs.lemmas.Bool.{true≢false, eqb-false}
@@ -15,7 +15,7 @@ use Rattle.rows.proofs.Splits.{first_piece}
 -- n lines are read, which say these rows, and the rest is to be read
 pub record ReadsTo (text rest : List ℕ) (n : ℕ) (rows : List Row) : Type 0 where
   pub left : lines rest ≡ drop n (lines text)
-  pub readable : All Readable (take n (lines text))
+  pub readable : AllByRecursion Readable (take n (lines text))
   pub so_far : rows ≡ rows_of (take n (lines text))
 
 -- the first line of what is left
@@ -66,4 +66,4 @@ pub done : (text rest : List ℕ) (n : ℕ) (rows : List Row) → ReadsTo text r
 done text rest n rows r h =
     let none : drop n (lines text) ≡ [] = sym r.left ∙ ap lines (nil_from_length rest h) in
     let all = take_all n (lines text) (omega (arith, ap length none, length-drop n (lines text))) in
-    (subst (All Readable) all r.readable, r.so_far ∙ ap rows_of all)
+    (subst (AllByRecursion Readable) all r.readable, r.so_far ∙ ap rows_of all)

@@ -1,6 +1,6 @@
 -- What reading the rows of a text answers. Assumes nothing.
 use Rattle.std.specs.Prelude.{◌≡◌, ℕ, suc, ◌<◌, List, [], ◌∷◌, length, take, slice_index_or}
-use Rattle.std.specs.List.{flat_map, AllByRecursion as All}
+use Rattle.std.specs.List.{flat_map, AllByRecursion}
 use Rattle.family.specs.declared.catalogue.Row.{Row}
 use Rattle.rows.specs.declared.Unreadable as U
 use Rattle.rows.specs.declared.Unreadable.TheVariants as u
@@ -29,11 +29,11 @@ rows_of ls = flat_map (λ line. row_list (said line)) ls
 
 -- every line of the text says a row or nothing, and these are the rows
 abbrev pub Says : List ℕ → List Row → Type 0
-Says text rows = All Readable (lines text) × (rows ≡ rows_of (lines text))
+Says text rows = AllByRecursion Readable (lines text) × (rows ≡ rows_of (lines text))
 
 -- the lines before this one, counted from 0, are readable, and this one says x
 abbrev pub Reaches : List (List ℕ) → ℕ → L.Line → Type 0
-Reaches ls k x = (k < length ls) × All Readable (take k ls) × (said (slice_index_or ls k []) ≡ x)
+Reaches ls k x = (k < length ls) × AllByRecursion Readable (take k ls) × (said (slice_index_or ls k []) ≡ x)
 
 -- why a text is refused: n is the number, from 1 on, of the first line that says neither a row nor nothing; or there is no memory for a row
 abbrev pub Refuses : List ℕ → U.Unreadable → Type 0

@@ -1,5 +1,5 @@
 -- What a part of the reading has read, and what it leaves to be judged. Assumes nothing.
-use Rattle.std.specs.Prelude.{◌≡◌, ℕ, ◌<◌, ◌≤◌, Bool, true, false, List, [], ◌∷◌, ◌++◌, length, IfOk, Ok, Err, Result, OnOk}
+use Rattle.std.specs.Prelude.{◌≡◌, ℕ, ◌<◌, ◌≤◌, Bool, true, false, List, ◌∷◌, ◌++◌, length, IfOk, Ok, Err, Result, OnOk}
 use Rattle.model.specs.declared.word.Mark.TheVariants.{Open, Close, Left, Right, Comma}
 use Rattle.model.specs.declared.node.Node.{Node}
 use Rattle.model.specs.declared.refusal.Refusal.{Refusal}
@@ -7,7 +7,7 @@ use Rattle.model.specs.Syntax.{Sort, Exprs}
 use Rattle.model.specs.Nodes.{flattens}
 use Rattle.model.specs.Tokens.{Token, word, number, mark, row}
 use Rattle.model.specs.Grammar.{Goal, move, moved, run, Outcome, refused}
-use Rattle.model.specs.Feed.{Feed, said}
+use Rattle.model.specs.Feed.{said}
 use Rattle.text.specs.declared.token.Token as code
 use Rattle.text.specs.declared.token.Lexer.{Lexer}
 use Rattle.text.specs.Lexer.{ahead, token_of, span_of}
@@ -60,7 +60,7 @@ Takes a (Err f) b = (g : Goal) (gs : List Goal) (n : ℕ) → run (ahead a) (g �
 pub record Read (ss : List Sort) (ts ts' : List Token) (old new : List Node) : Type 0 where
   pub which : Exprs ss
   pub text : ts ≡ row which ++ ts'
-  pub IfOk : new ≡ old ++ flattens which
+  pub made : new ≡ old ++ flattens which
 
 -- expressions of these sorts were read, whose tokens begin ts
 abbrev pub HasRead : {X : Type 0} → List Sort → List Token → Result X Refusal → Lexer → List Node → List Node → Type 0

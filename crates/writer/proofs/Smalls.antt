@@ -1,6 +1,6 @@
 -- The tokens of the unrolling of a tame program have small numbers. Assumes nothing.
 use Rattle.std.proofs.Common.{◌≡◌, Bool, true, false, not, [], ◌++◌, ℤ, pos, negsuc, nat_abs, arith}
-use Rattle.std.specs.List.{AllByRecursion as All}
+use Rattle.std.specs.List.{AllByRecursion}
 use Rattle.std.proofs.ByRecursion.{All-append}
 use Rattle.std.proofs.lemmas.Bool.{false≢true, ltb-false, leb-true, and_parts, or_parts, not-true, not-false}
 use Rattle.model.specs.declared.node.Operator.{Operator}
@@ -36,7 +36,7 @@ zero_small = omega arith
 
 -- ---- the four forms
 abbrev Fine : Solid → Type 0
-Fine x = All SmallToken (tokens x)
+Fine x = AllByRecursion SmallToken (tokens x)
 
 fine_empty : Fine programs.empty
 unfolding tokens row
@@ -57,7 +57,7 @@ unfolding tokens row
 fine_join o a b f g =
     (tt, (tt, All-append SmallToken (tokens a ++ (tokens b ++ [])) _ (All-append SmallToken (tokens a) (tokens b ++ []) f (All-append SmallToken (tokens b) [] g tt)) (tt, tt)))
 
-pub small_unrolling : (e : Solid) → tame e ≡ true → All SmallToken (tokens (unroll e))
+pub small_unrolling : (e : Solid) → tame e ≡ true → AllByRecursion SmallToken (tokens (unroll e))
 unfolding tame unroll
 small_unrolling e is-tame =
     related programs taming (λ x b. b ≡ true → Fine x)

@@ -11,7 +11,7 @@ returns-in_err-y c =
     let fc : SFits w64 c.args.v.constant.y = search rules in
     let fs : SFits w64 c.args.v.slope.y = search rules in
     let e : ◌≡◌ {A = Option ℤ} None (size_within v.y) = simp to_z-of_z at c.in_err-y.ensures in
-    c.from-residual-in_err-y.ensures ∙ no_y v e
+    c.from_residual-in_err-y.ensures ∙ no_y v e
 
 pub returns-in_err-z : goal.returns-in_err-z
 returns-in_err-z c =
@@ -19,7 +19,7 @@ returns-in_err-z c =
     let fc : SFits w64 c.args.v.constant.z = search rules in
     let fs : SFits w64 c.args.v.slope.z = search rules in
     let e : ◌≡◌ {A = Option ℤ} None (size_within v.z) = simp to_z-of_z at c.in_err-z.ensures in
-    c.from-residual-in_err-z.ensures ∙ no_z v e
+    c.from_residual-in_err-z.ensures ∙ no_z v e
 
 pub returns : goal.returns
 returns c =

@@ -1,4 +1,4 @@
-use Rattle.std.proofs.Common.{◌≡◌, ◌≤◌, [], length, vec_items, vec_len, sym, refl, ap, ◌∙◌, subst, inl, arith, rules}
+use Rattle.std.proofs.Common.{◌≡◌, ◌≤◌, vec_items, vec_len, sym, refl, ◌∙◌, subst, inl, arith, rules}
 use Rattle.std.proofs.lemmas.List.{nil_from_length}
 use Rattle.model.specs.declared.refusal.Refusal.TheVariants.{TooLarge}
 use Rattle.model.specs.Grammar.{refused}
@@ -9,11 +9,11 @@ use Rattle.model.proofs.Written.{read_small}
 use Rattle.text.proofs.Loads.{Loaded, loaded}
 use Rattle.text.proofs.load.read.Goals as goal
 
-pub returns-then-text-gt-MOST-BYTES : goal.returns-then-text-gt-MOST-BYTES
-returns-then-text-gt-MOST-BYTES c =
+pub returns-then-text-gt-MOST_BYTES : goal.returns-then-text-gt-MOST_BYTES
+returns-then-text-gt-MOST_BYTES c =
     let text = c.args.text.now in
-    let o : outcome text ≡ refused (TooLarge past_end) = outcome_long text c.if-text-gt-MOST-BYTES.true in
-    record { outcome = o; reading = (inl (c.if-text-gt-MOST-BYTES.true, refl), λ e. never text (TooLarge past_end) e o, refl) }
+    let o : outcome text ≡ refused (TooLarge past_end) = outcome_long text c.if-text-gt-MOST_BYTES.true in
+    record { outcome = o; reading = (inl (c.if-text-gt-MOST_BYTES.true, refl), λ e. never text (TooLarge past_end) e o, refl) }
 
 pub read_program-requires : goal.read_program-requires
 read_program-requires c = record { cap = c.args.table.now.spared; fresh = nil_from_length (vec_items c.args.table.now.spare) (omega (arith, c.args.table.now.fresh, c.args.table.now.spare.ok.0)) }
@@ -21,16 +21,16 @@ read_program-requires c = record { cap = c.args.table.now.spared; fresh = nil_fr
 pub returns-in-Err : goal.returns-in-Err
 returns-in-Err c =
     let text = c.args.text.now in
-    let o : outcome text ≡ refused c.in-Err.refusal = outcome_short text c.if-text-gt-MOST-BYTES.false ∙ c.in-Err.ensures.goes in
+    let o : outcome text ≡ refused c.in-Err.refusal = outcome_short text c.if-text-gt-MOST_BYTES.false ∙ c.in-Err.ensures.goes in
     record { outcome = o; reading = (refuses text c.in-Err.refusal o, λ e. never text c.in-Err.refusal e o, refl) }
 
 pub invariant_of-table-2 : goal.invariant_of-table-2
 invariant_of-table-2 c =
-    let l = subst (λ v. Loaded c.args.text.now (vec_items v)) (sym c.swap.ensures.x-after) (loaded c.args.text.now (vec_items c.read_program.new.out) (vec_len c.read_program.new.out) c.in_default.ensures.read c.if-text-gt-MOST-BYTES.false c.in_default.ensures.goes) in
+    let l = subst (λ v. Loaded c.args.text.now (vec_items v)) (sym c.swap.ensures.x_after) (loaded c.args.text.now (vec_items c.read_program.new.out) (vec_len c.read_program.new.out) c.in_default.ensures.read c.if-text-gt-MOST_BYTES.false c.in_default.ensures.goes) in
     let few : vec_len c.swap.new.x ≤ 640 = omega (arith, l.few, c.swap.new.x.ok.0) in
-    (l.are_whole, (few, (search rules, (search rules, (search rules, tt)))))
+    record { program = l.are_whole; few = few; room = search rules; fresh = search rules; spared = search rules }
 
 pub returns : goal.returns
 returns c =
-    let l = subst (λ v. Loaded c.args.text.now (vec_items v)) (sym c.swap.ensures.x-after) (loaded c.args.text.now (vec_items c.read_program.new.out) (vec_len c.read_program.new.out) c.in_default.ensures.read c.if-text-gt-MOST-BYTES.false c.in_default.ensures.goes) in
+    let l = subst (λ v. Loaded c.args.text.now (vec_items v)) (sym c.swap.ensures.x_after) (loaded c.args.text.now (vec_items c.read_program.new.out) (vec_len c.read_program.new.out) c.in_default.ensures.read c.if-text-gt-MOST_BYTES.false c.in_default.ensures.goes) in
     record { outcome = l.outcome; reading = (l.accepted, read_small c.args.text.now (program (vec_items c.swap.new.x)) l.accepted, λ other e a. same_program other c.args.text.now e (program (vec_items c.swap.new.x)) a l.accepted) }

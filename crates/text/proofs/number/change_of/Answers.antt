@@ -1,8 +1,8 @@
-use Rattle.std.proofs.Common.{◌≡◌, length, pos, sym, ap, ◌∙◌, arith}
+use Rattle.std.proofs.Common.{length, pos, sym, ap, ◌∙◌, arith}
 use Rattle.std.specs.Option.{option_map}
 use Rattle.std.proofs.lemmas.List.{get_or_past}
 use Rattle.std.proofs.lemmas.Slice.{between_to_end}
-use Rattle.model.specs.Bytes.{natural_of, minus, change_of}
+use Rattle.model.specs.Bytes.{natural_of, minus}
 use Rattle.model.proofs.Numbers.{change_plus, change_minus, change_none}
 use Rattle.text.proofs.number.change_of.Goals as goal
 

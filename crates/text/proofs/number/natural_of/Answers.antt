@@ -1,4 +1,4 @@
-use Rattle.std.proofs.Common.{◌≡◌, ◌^◌, ◌<◌, ◌≤◌, length, get_or, take, Some, sym, ap, ◌∙◌, subst, arith}
+use Rattle.std.proofs.Common.{◌≡◌, ℕ, List, ◌^◌, ◌<◌, ◌≤◌, length, get_or, take, Some, sym, ap, ◌∙◌, subst, arith}
 use Rattle.std.specs.Str.Parse.{digits_value, AllDigits}
 use Rattle.std.proofs.lemmas.Int.Digits.{digits_value_more, digits_more}
 use Rattle.std.proofs.lemmas.List.{take_all, length-take-le}
@@ -6,7 +6,7 @@ use Rattle.std.proofs.lemmas.Bool.{eqb-true, eqb-false}
 use Rattle.model.specs.Bytes.{natural_of}
 use Rattle.model.proofs.Numbers.{digit_value, short_value, no_natural_empty, no_natural_long, no_natural_zero, no_natural_byte, natural_digits}
 use Rattle.text.proofs.number.natural_of.Goals as goal
-use Rattle.text.proofs.number.natural_of.Goals.{Else-not-is-ascii-digit, then-is_empty-via-then-is_empty, then-is_empty-via-else-is_empty+then-run-gt7, then-is_empty-via-else-is_empty+else-run-gt7+then-run-eq48}
+use Rattle.text.proofs.number.natural_of.Goals.{then-is_empty-via-then-is_empty, then-is_empty-via-else-is_empty+then-run-gt7, then-is_empty-via-else-is_empty+else-run-gt7+then-run-eq48}
 
 pub returns-then-is_empty : goal.returns-then-is_empty
 returns-then-is_empty c =
@@ -24,15 +24,17 @@ returns-then-not-is_ascii_digit c = record {
 }
 
 -- what is read so far has at most six digits
-six : (c : goal.Else-not-is_ascii_digit) → c.loop-b.value < 10 ^ 6
-six c = subst (λ n. n < 10 ^ 6) (sym c.loop-b.invariant.0) (short_value (take c.loop-b.b-index c.args.run.now) 6 c.loop-b.invariant.1 (omega (arith, length-take-le c.loop-b.b-index c.args.run.now (omega arith))))
+six : (run : List ℕ) (i n : ℕ) → i < length run → length run ≤ 7 → n ≡ digits_value 10 (take i run) → AllDigits 10 (take i run) → n < 10 ^ 6
+six run i n h few is ds = subst (λ n. n < 10 ^ 6) (sym is) (short_value (take i run) 6 ds (omega (arith, length-take-le i run (omega arith))))
 
 pub overflow_mul-value : goal.overflow_mul-value
-overflow_mul-value c = let h = six c in omega arith
+overflow_mul-value c =
+    let h = six c.args.run.now c.loop-b.b-index c.loop-b.value c.loop-b-test.true c.if-run-gt7.false c.loop-b.invariant.0 c.loop-b.invariant.1 in
+    omega arith
 
 pub overflow_add-value : goal.overflow_add-value
 overflow_add-value c =
-    let h : c.loop-b.value < 10 ^ 6 = six (goal.at.overflow_add-value c).Else-not-is-ascii-digit in
+    let h = six c.args.run.now c.loop-b.b-index c.loop-b.value c.loop-b-test.true c.if-run-gt7.false c.loop-b.invariant.0 c.loop-b.invariant.1 in
     omega (arith, (digit_value (get_or c.args.run.now c.loop-b.b-index 0) (sym c.if-not-is_ascii_digit.ensures.value)).1)
 
 pub loop-b-preserved : goal.loop-b-preserved

@@ -1,9 +1,9 @@
-use Rattle.std.proofs.Common.{◌≡◌, ◌-◌, length, get_or, take, ℤ, pos, Some, None, sym, ap, ◌∙◌, arith, w64, SFits, to_z, of_z, rules}
+use Rattle.std.proofs.Common.{◌≡◌, ◌-◌, length, get_or, take, pos, Some, sym, ap, ◌∙◌, arith, w64, SFits, rules}
 use native.Mathlib.Nat.{sub-zero}
 use Rattle.std.specs.Option.{option_map}
 use Rattle.std.proofs.lemmas.List.{get_or_past}
 use Rattle.std.proofs.lemmas.Int.{to_z-of_z}
-use Rattle.model.specs.Bytes.{slope_of, plain_of, number_of}
+use Rattle.model.specs.Bytes.{slope_of}
 use Rattle.model.proofs.Numbers.{number_index, number_plain}
 use Rattle.text.proofs.number.number_of.Goals as goal
 use Rattle.text.proofs.number.number_of.Goals.{else-n-gt0-via-then-n-gt0+else-run-n-eq105, else-n-gt0-via-else-n-gt0}
@@ -19,7 +19,7 @@ returns-in_err-constant c =
       | else-n-gt0-via-then-n-gt0+else-run-n-eq105 w ↦ w.if-run-n-eq105.false
       | else-n-gt0-via-else-n-gt0 w ↦ λ e. omega (arith, get_or_past c.args.run.now (length c.args.run.now - 1) 0 (omega arith))
     ] in
-    c.from-residual.ensures ∙ sym (number_plain c.args.run.now last ∙ ap (option_map (λ a. (a, pos 0))) (sym c.in_err-constant.ensures))
+    c.from_residual.ensures ∙ sym (number_plain c.args.run.now last ∙ ap (option_map (λ a. (a, pos 0))) (sym c.in_err-constant.ensures))
 
 pub returns : goal.returns
 returns c =

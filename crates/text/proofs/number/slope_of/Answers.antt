@@ -1,4 +1,4 @@
-use Rattle.std.proofs.Common.{◌≡◌, [], take, pos, Some, sym, ap, ◌∙◌, arith, w64, SFits, to_z, of_z, rules}
+use Rattle.std.proofs.Common.{[], take, pos, Some, sym, ap, ◌∙◌, arith, w64, SFits, to_z, of_z, rules}
 use native.Mathlib.Nat.{sub-zero}
 use Rattle.std.proofs.lemmas.List.{drop_all, take_rest}
 use Rattle.std.proofs.lemmas.Int.{to_z-of_z}
@@ -18,13 +18,13 @@ returns-then-cut-run c =
 
 pub returns-in_err-constant : goal.returns-in_err-constant
 returns-in_err-constant c =
-    c.from-residual.ensures
+    c.from_residual.ensures
     ∙ sym (slope_no_constant c.args.run.now c.run_end-cut.result (sym c.in_default.ensures) c.run_end-cut.ensures.value
     (ap (λ n. amount_of (take n c.args.run.now)) (sym (sub-zero c.run_end-cut.result)) ∙ sym c.in_err-constant.ensures))
 
 pub returns-in_err-slope : goal.returns-in_err-slope
 returns-in_err-slope c =
-    c.from-residual-in_err-slope.ensures
+    c.from_residual-in_err-slope.ensures
     ∙ sym (slope_no_change c.args.run.now c.run_end-cut.result (sym c.in_default.ensures) c.run_end-cut.ensures.value
     (ap change_of (sym (take_rest c.args.run.now c.run_end-cut.result)) ∙ sym c.in_err-slope.ensures))
 

@@ -1,4 +1,4 @@
-use Rattle.std.proofs.Common.{◌≡◌, ◌∷◌, sym, refl, ap, ◌∙◌, rules}
+use Rattle.std.proofs.Common.{◌≡◌, refl, rules}
 use Rattle.model.specs.declared.word.Mark.TheVariants.{Left}
 use Rattle.model.specs.Syntax as S
 use Rattle.model.specs.Tokens.{mark}

@@ -35,7 +35,7 @@ invariant_of-self-2 g c =
     let a = c.in_default.ensures.reading.0 in
     let legal : Legal (g.F.Family.meaning c.args.family.now) (held c.read.new.self.table) = sym (c.fault.ensures (textual_ordered (held c.read.new.self.table) a.orderless)) ∙ c.in_default-fault.is in
     let P : Layout → Type 0 = λ l. Sound (held l.table) in
-    let s = subst P (sym c.swap.ensures.x-after) (legal_sound (g.F.Family.meaning c.args.family.now) (held c.read.new.self.table) a.orderless legal) in
+    let s = subst P (sym c.swap.ensures.x_after) (legal_sound (g.F.Family.meaning c.args.family.now) (held c.read.new.self.table) a.orderless legal) in
     (s.orderless, (s.counted, (s.small, (s.tamed, tt))))
 
 pub returns : goal.returns
@@ -45,4 +45,4 @@ returns g c =
     let m = g.F.Family.meaning c.args.family.now in
     let legal : Legal m (held c.read.new.self.table) = sym (c.fault.ensures (textual_ordered (held c.read.new.self.table) r.0.orderless)) ∙ c.in_default-fault.is in
     let P : Layout → Type 0 = λ l. Accepts c.args.text.now (held l.table) × SevenDigits (held l.table) × Legal m (held l.table) in
-    subst P (sym c.swap.ensures.x-after) (r.0, r.1, legal)
+    subst P (sym c.swap.ensures.x_after) (r.0, r.1, legal)

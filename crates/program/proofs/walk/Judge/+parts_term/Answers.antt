@@ -18,7 +18,7 @@ parts-returns-in_err-next g t c =
     let j = c.args.self.now in
     let m = g.F.Family.meaning j.family.now in
     let n = c.in_err-next.field-0.0 in
-    let broken : c.from-residual.result ≡ Err n = search rules in
+    let broken : c.from_residual.result ≡ Err n = search rules in
     let p = parts_broken m j.law j.nodes.now j.measures.now c.args.place c.args.count n c.args.context (λ z. omega arith) c.in_err-next.ensures.judged in
     record { within = search rules; judged = subst (PartsJudged m j.law j.nodes.now j.measures.now c.args.place c.args.count c.args.context) (sym broken) p }
 

@@ -1,4 +1,4 @@
-use Rattle.std.proofs.Common.{◌≡◌, ◌+◌, sym, refl, ap, ◌∙◌, arith}
+use Rattle.std.proofs.Common.{◌+◌, sym, refl, ap, ◌∙◌, arith}
 use Rattle.std.proofs.lemmas.Result.{err_from_is_err_and}
 use Rattle.model.specs.Feed as F
 use Rattle.model.specs.Lexing.{fed, feed}
@@ -16,7 +16,7 @@ pub returns-in_err-token : goal.returns-in_err-token
 returns-in_err-token c =
     let t = c.args.self.now.text.now in
     let bad = c.in_err-token.ensures in
-    let p = err_from_is_err_and c.from-residual.result c.from-residual.ensures.1 in
+    let p = err_from_is_err_and c.from_residual.result c.from_residual.ensures.1 in
     rw (p.1, p.2)
     (record {
       same = refl;
