@@ -25,7 +25,7 @@ def code_names():
     for crate in os.listdir("crates"):
         src = os.path.join("crates", crate, "src")
         for name in os.listdir(src):
-            found |= set(re.findall(r"\b[a-z0-9]+(?:_[a-z0-9]+)+\b", read(os.path.join(src, name))))
+            found |= set(re.findall(r"\b[A-Za-z0-9]+(?:_[A-Za-z0-9]+)+\b", read(os.path.join(src, name))))
     return sorted(found, key=lambda n: -len(n))
 
 
@@ -67,13 +67,13 @@ def main():
                         if parts[i] in own and parts[0] != "goal":
                             parts[i] = own[parts[i]]
                     word = ".".join(parts)
-                if in_function and re.match(r"(\w+\.)*[a-z]", word) and (word.split(".")[0] in ("c", "l", "w", "goal") or word in heads):
+                if in_function and (re.search(r"(?:^|\.)(?:After|Else|Then|In|Start)-", word) or word.split(".")[0] in ("c", "l", "w", "goal") or word in heads):
                     for p, n in patterns:
                         word = p.sub(n, word)
                 return word
 
             heads = set(re.findall(r"(?m)^(?:abbrev |pub )*(\S+)\s+:\s+goal\.", text)) if in_function else set()
-            heads |= {n for s in re.findall(r"(?m)^use \S+\.(?:Goals|Given|Lts)\.\{([^}]*)\}", text) for n in re.split(r",\s*", s)} if in_function else set()
+            heads |= {n for s in re.findall(r"(?m)^use \S+\.(?:Goals|Given|Lts)\.\{([^}]*)\}", text) for n in re.split(r",\s*|\s+", s)} if in_function else set()
             after = TOKEN.sub(one, text)
             if after != text:
                 changed += 1

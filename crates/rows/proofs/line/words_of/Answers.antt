@@ -6,7 +6,7 @@ use Rattle.rows.specs.Pieces.{words}
 use Rattle.rows.specs.Rows.{a_row}
 use Rattle.rows.proofs.Fives.{says_blank, says_many, says_row, word_at, rest_at, there, five_by}
 use Rattle.rows.proofs.line.words_of.Goals as goal
-use Rattle.rows.proofs.line.words_of.Goals.{After-next-word}
+use Rattle.rows.proofs.line.words_of.Goals.{After-next_word}
 
 pub returns-then-is_empty : goal.returns-then-is_empty
 returns-then-is_empty c = sym (says_blank _ (ap length (c.next_word-profile.ensures.none (eqb-true _ 0 (sym c.if-is_empty.ensures)))))
@@ -23,13 +23,13 @@ rests c =
 pub returns-then-not-is_empty : goal.returns-then-not-is_empty
 returns-then-not-is_empty c =
     let ws = words c.args.text.now in
-    let sixth = word_at ws _ 5 _ (rests (goal.at.returns-then-not-is_empty c).After-next-word).3 c.next_word.ensures.first in
+    let sixth = word_at ws _ 5 _ (rests (goal.at.returns-then-not-is_empty c).After-next_word).3 c.next_word.ensures.first in
     sym (says_many ws (there ws 5 _ sixth (eqb-false _ 0 (sym c.if-not-is_empty.ensures))))
 
 pub returns : goal.returns
 returns c =
     let ws = words c.args.text.now in
-    let after = rests (goal.at.returns c).After-next-word in
+    let after = rests (goal.at.returns c).After-next_word in
     let some = there ws 0 _ c.next_word-profile.ensures.first (eqb-false _ 0 (sym c.if-is_empty.ensures)) in
     let none = sym after.3 ∙ c.next_word.ensures.none (eqb-true _ 0 (sym c.if-not-is_empty.ensures)) in
     c.line_from.ensures

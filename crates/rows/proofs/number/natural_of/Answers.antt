@@ -7,13 +7,13 @@ use Rattle.model.proofs.Numbers.{digit_value, short_value}
 use Rattle.rows.specs.Numbers.{natural_of}
 use Rattle.rows.proofs.Naturals.{no_natural_empty, no_natural_long, no_natural_byte, natural_digits}
 use Rattle.rows.proofs.number.natural_of.Goals as goal
-use Rattle.rows.proofs.number.natural_of.Goals.{Else-not-is-ascii-digit, then-is_empty-via-then-is_empty, then-is_empty-via-else-is_empty+then-word-gt-MOST-DIGITS}
+use Rattle.rows.proofs.number.natural_of.Goals.{Else-not-is_ascii_digit, then-is_empty-via-then-is_empty, then-is_empty-via-else-is_empty+then-word-gt-MOST_DIGITS}
 
 pub returns-then-is_empty : goal.returns-then-is_empty
 returns-then-is_empty c =
     let none : natural_of c.args.word.now ≡ _ = elim c.then-is_empty.branch [
       | then-is_empty-via-then-is_empty w ↦ no_natural_empty _ (eqb-true _ 0 (sym c.is_empty.ensures ∙ w.if-is_empty.true))
-      | then-is_empty-via-else-is_empty+then-word-gt-MOST-DIGITS w ↦ no_natural_long _ w.if-word-gt-MOST-DIGITS.true
+      | then-is_empty-via-else-is_empty+then-word-gt-MOST_DIGITS w ↦ no_natural_long _ w.if-word-gt-MOST_DIGITS.true
     ] in
     record { value = sym none; small = tt }
 
@@ -32,7 +32,7 @@ overflow_mul-value c = let h = before_last c in omega arith
 
 pub overflow_add-value : goal.overflow_add-value
 overflow_add-value c =
-    let h : c.loop-b.value < 10 ^ 17 = before_last (goal.at.overflow_add-value c).Else-not-is-ascii-digit in
+    let h : c.loop-b.value < 10 ^ 17 = before_last (goal.at.overflow_add-value c).Else-not-is_ascii_digit in
     omega (arith, (digit_value (get_or c.args.word.now c.loop-b.b-index 0) (sym c.if-not-is_ascii_digit.ensures.value)).1)
 
 pub loop-b-preserved : goal.loop-b-preserved
@@ -48,6 +48,6 @@ returns c =
     let ds : AllDigits 10 c.args.word.now = subst (AllDigits 10) all c.loop-b.invariant.1 in
     let is = c.loop-b.invariant.0 ∙ ap (digits_value 10) all in
     record {
-      value = ap Some is ∙ sym (natural_digits c.args.word.now (omega (arith, eqb-false (length c.args.word.now) 0 (sym c.if-is_empty.ensures))) c.if-word-gt-MOST-DIGITS.false ds);
+      value = ap Some is ∙ sym (natural_digits c.args.word.now (omega (arith, eqb-false (length c.args.word.now) 0 (sym c.if-is_empty.ensures))) c.if-word-gt-MOST_DIGITS.false ds);
       small = omega (arith, short_value c.args.word.now 18 ds (omega arith));
     }
