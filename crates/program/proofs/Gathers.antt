@@ -1,9 +1,9 @@
 -- What is told of terms in a row, one after the other. Assumes nothing.
-use Rattle.std.proofs.Common.{◌≡◌, ℕ, zero, suc, ◌+◌, ◌-◌, ◌*◌, ◌^◌, ◌<◌, ◌≤◌, ◌⊎◌, List, [], ◌∷◌, map, length, get_or, drop, sym, refl, ap, ◌∙◌, subst, inl, inr, arith}
+use Rattle.std.proofs.Common.{◌≡◌, ℕ, zero, suc, ◌+◌, ◌-◌, ◌<◌, ◌≤◌, ◌⊎◌, List, [], ◌∷◌, length, get_or, drop, sym, refl, ap, ◌∙◌, subst, inl, inr, arith}
 use Rattle.std.proofs.lemmas.List.{drop_all, drop-drop, drop_more}
 use Rattle.program.specs.declared.measure.Measure.{Measure}
 use Rattle.program.specs.declared.measuring.Parts.{Parts}
-use Rattle.program.specs.Measures.{cap, total, nothing, terms, Bounded, BoundedFrom, Gathered}
+use Rattle.program.specs.Measures.{nothing, terms, Bounded, Gathered}
 
 terms_none : (k : ℕ) → terms k [] ≡ []
 terms_none zero = refl

@@ -1,7 +1,7 @@
 -- What is told of a layout's root is told of its program. Assumes nothing.
-use Rattle.std.proofs.Common.{◌≡◌, ℕ, ◌<◌, ◌≤◌, min, true, List, [], ◌++◌, length, get_or, vec_items, vec_len, sym, refl, ap, ◌∙◌, subst, append-nil, arith}
+use Rattle.std.proofs.Common.{◌≡◌, ◌<◌, ◌≤◌, true, [], ◌++◌, length, get_or, vec_items, sym, refl, ap, ◌∙◌, append-nil, arith}
 use Rattle.model.specs.Limits.{most_unrolled}
-use Rattle.model.specs.Syntax.{one, solid, Expr, node, Solid, Empty, size, sizes, textual, textuals}
+use Rattle.model.specs.Syntax.{one, solid, node, Solid, Empty, size, sizes, textual, textuals}
 use Rattle.model.specs.Nodes.{flatten}
 use Rattle.model.specs.Shapes.{run, runs}
 use Rattle.model.specs.Counts.{weight, weights}
@@ -17,7 +17,7 @@ use Rattle.model.proofs.Ordering.{textual_ordered}
 use Rattle.model.proofs.Tamed.{legal_tame}
 use Rattle.program.specs.declared.layout.Layout.{Layout}
 use Rattle.program.specs.declared.part.Part.{Part}
-use Rattle.program.specs.Measures.{measure, measures_of, nothing}
+use Rattle.program.specs.Measures.{measure, nothing}
 use Rattle.program.proofs.Told.{tells, length_measures}
 
 -- the nodes of a table are those of its program

@@ -49,7 +49,8 @@ fn elements_of(node: Node, parts: Parts) -> u128
 {
     match node {
         Node::List(count) | Node::Sort(count) | Node::Unsort(count) => count as u128,
-        Node::Repeat(count) | Node::Tabulate(count) => count.max(0) as u128,
+        Node::Repeat(count) => count.max(0) as u128,
+        Node::Tabulate(count) => count.max(0) as u128,
         Node::Concat => parts.first + parts.second,
         Node::Map2(_) => parts.first.min(parts.second),
         _ => 0,
@@ -65,7 +66,8 @@ fn unrolled_of(node: Node, parts: Parts) -> u128
         Node::Empty | Node::Primitive(_, _) => 1,
         Node::Place(_, _) | Node::Join(_) => parts.unrolled + 1,
         Node::Fold => folded(parts.first, parts.unrolled),
-        Node::Repeat(count) | Node::Tabulate(count) => count.max(0) as u128 * parts.unrolled,
+        Node::Repeat(count) => count.max(0) as u128 * parts.unrolled,
+        Node::Tabulate(count) => count.max(0) as u128 * parts.unrolled,
         Node::List(_) | Node::Concat | Node::Sort(_) | Node::Unsort(_) => parts.unrolled,
         Node::Map2(_) => parts.unrolled + parts.first.min(parts.second),
         Node::Vector(_) | Node::Number(_) => 0,

@@ -1,5 +1,4 @@
-use Rattle.std.proofs.Common.{◌≡◌, ◌+◌, ◌*◌, ◌^◌, ◌<◌, ◌≤◌, ◌⊎◌, length, get_or, arith, rules}
-use Rattle.program.specs.Measures.{nothing, Bounded, cap}
+use Rattle.std.proofs.Common.{◌≡◌, ◌^◌, ◌<◌, ◌≤◌, ◌⊎◌, length, arith, rules}
 use Rattle.program.proofs.Gathers.{gather_none, gather_more}
 use Rattle.program.proofs.measuring.+gather.Goals as goal
 

@@ -1,4 +1,3 @@
-use Rattle.std.proofs.Common.{◌≡◌, true}
 use Rattle.model.specs.Orders.{Ordered}
 use Rattle.model.specs.Tables.{held}
 use Rattle.program.proofs.Faults.{KeptTo}

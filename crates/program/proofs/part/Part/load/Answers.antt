@@ -1,6 +1,5 @@
-use Rattle.std.proofs.Common.{◌≡◌, Some, None, sym, refl, ap, ◌∙◌, subst}
+use Rattle.std.proofs.Common.{sym, refl, ◌∙◌, subst}
 use Rattle.model.specs.Spelling.{SevenDigits}
-use Rattle.model.specs.Syntax.{Solid}
 use Rattle.model.specs.Tables.{held}
 use Rattle.model.specs.Texts.{Accepts}
 use Rattle.model.specs.Legality.{Legal}
@@ -36,7 +35,7 @@ invariant_of-self-2 g c =
     let legal : Legal (g.F.Family.meaning c.args.family.now) (held c.read.new.self.table) = sym (c.fault.ensures (textual_ordered (held c.read.new.self.table) a.orderless)) ∙ c.in_default-fault.is in
     let P : Layout → Type 0 = λ l. Sound (held l.table) in
     let s = subst P (sym c.swap.ensures.x_after) (legal_sound (g.F.Family.meaning c.args.family.now) (held c.read.new.self.table) a.orderless legal) in
-    (s.orderless, (s.counted, (s.small, (s.tamed, tt))))
+    record { orderless = s.orderless; counted = s.counted; small = s.small; tame = s.tamed }
 
 pub returns : goal.returns
 unfolding Legal

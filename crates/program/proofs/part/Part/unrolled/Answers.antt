@@ -1,4 +1,4 @@
-use Rattle.std.proofs.Common.{◌≡◌, length, get_or, ap, ◌∙◌, arith}
+use Rattle.std.proofs.Common.{length, get_or, ap, ◌∙◌, arith}
 use Rattle.program.specs.Measures.{nothing}
 use Rattle.program.proofs.Roots.{some_told, part_unrolled}
 use Rattle.program.proofs.part.Part.unrolled.Goals as goal
