@@ -1,5 +1,5 @@
 -- The frames of a walk, and what a turn does to them. Assumes nothing.
-use Rattle.std.proofs.Common.{◌≡◌, ℕ, suc, ◌+◌, ◌-◌, ◌<◌, true, false, List, [], ◌∷◌, ◌++◌, length, Some, None, sym, refl, ap, ◌∙◌, subst, arith, length-append}
+use Rattle.std.proofs.Common.{◌≡◌, ℕ, suc, ◌+◌, ◌<◌, true, false, List, [], ◌∷◌, ◌++◌, length, Some, None, sym, refl, ap, ◌∙◌, subst, arith, length-append}
 use Rattle.model.specs.declared.node.Node.{Node}
 use Rattle.model.specs.declared.node.Operator.TheVariants.{Union}
 use Rattle.model.specs.Families.{Meaning}

@@ -1,5 +1,5 @@
 -- The turns that take an answer to the frame on top. Assumes nothing.
-use Rattle.std.proofs.Common.{◌≡◌, ℕ, ◌+◌, ◌-◌, ◌*◌, ◌<◌, ◌≤◌, Bool, ◌||◌, List, [], ◌∷◌, ◌++◌, length, get_or, drop, Some, sym, refl, ap, ◌∙◌, subst, arith}
+use Rattle.std.proofs.Common.{◌≡◌, ℕ, ◌+◌, ◌*◌, ◌<◌, ◌≤◌, Bool, ◌||◌, List, [], ◌∷◌, ◌++◌, length, get_or, drop, Some, sym, refl, ap, ◌∙◌, subst, arith}
 use Rattle.model.specs.declared.node.Node.{Node}
 use Rattle.model.specs.declared.node.Operator.{Operator}
 use Rattle.model.specs.declared.node.Operator.TheVariants.{Union}
@@ -10,7 +10,7 @@ use Rattle.probe.specs.declared.task.Frame.TheVariants.{Left, Right, Rest}
 use Rattle.probe.specs.declared.task.Turn.{Turn}
 use Rattle.probe.specs.declared.task.Turn.TheVariants.{Enter, Leave}
 use Rattle.std.proofs.lemmas.List.{drop_more, drop_all}
-use Rattle.model.specs.Syntax.{solid, one, many}
+use Rattle.model.specs.Syntax.{solid, many}
 use Rattle.model.specs.Counts.{count}
 use Rattle.model.specs.Shapes.{idle}
 use Rattle.model.specs.Unrolling.{apply, belonging}

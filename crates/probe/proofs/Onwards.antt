@@ -16,7 +16,7 @@ use Rattle.probe.specs.Moving.{moves, Reached}
 use Rattle.probe.specs.Walking.{Sought, Led, walking}
 use Rattle.probe.specs.Leading.{Onward}
 use Rattle.probe.proofs.Terms.{inside}
-use Rattle.probe.proofs.Rows.{behind, told}
+use Rattle.probe.proofs.Rows.{told}
 use Rattle.probe.proofs.Leads.{task, open_as, left_sought, right_sought, vectors_sought, solids_sought, led_left, led_right, led_pair}
 
 -- the list's own node

@@ -4,7 +4,6 @@ use Rattle.std.proofs.lemmas.Bool.{le-leb}
 use Rattle.model.specs.declared.node.Triple.{Triple}
 use Rattle.model.specs.declared.point.Point.{Point}
 use Rattle.model.specs.Nodes.{flatten}
-use Rattle.model.specs.Held.{program}
 use Rattle.model.specs.Families.{Meaning}
 use Rattle.model.specs.Shapes.{run}
 use Rattle.model.specs.Syntax.{one, solid, Solid}

@@ -1,8 +1,8 @@
 -- What it takes to put an expression whose nodes stand in a list. Assumes nothing.
-use Rattle.std.proofs.Common.{◌≡◌, ℕ, ◌+◌, ◌-◌, ◌^◌, ◌<◌, ◌≤◌, min, ◌⊎◌, List, [], ◌∷◌, ◌++◌, length, drop, sym, refl, ap, ◌∙◌, inl, inr, append_assoc, arith}
+use Rattle.std.proofs.Common.{◌≡◌, ℕ, ◌+◌, ◌-◌, ◌^◌, ◌<◌, ◌≤◌, min, ◌⊎◌, List, [], ◌∷◌, ◌++◌, length, drop, sym, ap, ◌∙◌, inl, inr, append_assoc, arith}
 use Rattle.std.proofs.lemmas.List.{drop_all}
 use Rattle.model.specs.declared.node.Node.{Node}
-use Rattle.model.specs.Syntax.{Sort, arity, node, none, more}
+use Rattle.model.specs.Syntax.{arity, node, none, more}
 use Rattle.model.specs.Nodes.{parts, flatten, flattens}
 use Rattle.model.specs.Spelling.{part_texts, opening_text, closing_text}
 use Rattle.model.proofs.Extents.{split_cons, some≢none, asked}

@@ -1,5 +1,5 @@
 -- The tokens of the unrolling of a tame program have small numbers. Assumes nothing.
-use Rattle.std.proofs.Common.{◌≡◌, Bool, true, false, not, [], ◌++◌, ℤ, pos, negsuc, nat_abs, arith}
+use Rattle.std.proofs.Common.{◌≡◌, true, false, not, [], ◌++◌, ℤ, pos, negsuc, nat_abs, arith}
 use Rattle.std.specs.List.{AllByRecursion}
 use Rattle.std.proofs.ByRecursion.{All-append}
 use Rattle.std.proofs.lemmas.Bool.{false≢true, ltb-false, leb-true, and_parts, or_parts, not-true, not-false}

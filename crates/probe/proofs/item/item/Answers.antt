@@ -18,13 +18,13 @@ loop-element-smaller-in-Further c = let s = c.loop-element.invariant.sought in
     let h = inside c.args.nodes.now c.loop-element.list.node s.ready.stands in
     omega (arith, (c.in-Further.ensures solid s).behind)
 
-pub paired-requires : goal.paired-requires
-paired-requires c = let s = c.loop-element.invariant.sought in record { laid = c.requires.laid; sought = s; pair = c.in-Pair.ensures solid s }
+pub paired-list-requires : goal.paired-list-requires
+paired-list-requires c = let s = c.loop-element.invariant.sought in record { laid = c.requires.laid; sought = s; pair = c.in-Pair.ensures solid s }
 
 pub loop-element-preserved : goal.loop-element-preserved
-loop-element-preserved c = one_more _ _ _ _ _ _ _ _ c.loop-element.invariant c.paired.ensures
+loop-element-preserved c = one_more _ _ _ _ _ _ _ _ c.loop-element.invariant c.paired-list.ensures
 
 pub loop-element-smaller : goal.loop-element-smaller
 loop-element-smaller c = let s = c.loop-element.invariant.sought in
     let h = inside c.args.nodes.now c.loop-element.list.node s.ready.stands in
-    omega (arith, c.paired.ensures.behind)
+    omega (arith, c.paired-list.ensures.behind)

@@ -1,8 +1,6 @@
-use Rattle.std.proofs.Common.{◌≡◌, ℕ, ◌+◌, ◌-◌, ◌<◌, ◌≤◌, length, get_or, sym, ap, subst, arith, w64, SFits, rules}
+use Rattle.std.proofs.Common.{◌+◌, arith, w64, SFits, rules}
 use Rattle.model.specs.declared.node.Node.TheVariants as v
-use Rattle.model.specs.Families.{Meaning}
-use Rattle.model.specs.Syntax.{Kind, solid, vector, one, many}
-use Rattle.probe.specs.Walking.{Sought, Led}
+use Rattle.model.specs.Syntax.{many}
 use Rattle.probe.proofs.Rows.{behind}
 use Rattle.probe.proofs.Leads.{list_row, tab_few, led_list, led_repeat, led_tab, unlisted}
 use Rattle.probe.proofs.Onwards.{here, natural_small, first_stands, left_on, right_on, left_led, right_led}
@@ -20,8 +18,8 @@ bounds c = let h = here _ _ c.requires.laid c.args.list c.args.k c.requires.soug
 pub bounds-nodes : goal.bounds-nodes
 bounds-nodes c = let h = here _ _ c.requires.laid c.args.list c.args.k c.requires.sought in search rules
 
-pub bounds-nodes-in-Map2· : goal.bounds-nodes-in-Map2·
-bounds-nodes-in-Map2· c = let h = here _ _ c.requires.laid c.args.list c.args.k c.requires.sought in search rules
+pub bounds-nodes-in-Map2-1 : goal.bounds-nodes-in-Map2-1
+bounds-nodes-in-Map2-1 c = let h = here _ _ c.requires.laid c.args.list c.args.k c.requires.sought in search rules
 
 pub element-requires : goal.element-requires
 element-requires c = let s = c.requires.sought in
@@ -36,14 +34,14 @@ returns-in-Repeat c = λ κ s m. led_repeat c.args.nodes.now m κ c.args.list c.
 
 pub overflow_cast-result : goal.overflow_cast-result
 overflow_cast-result c = let s = c.requires.sought in
-    let f : SFits w64 c.in-Tabulate.-count = search rules in
-    omega (arith, natural_small c.in-Tabulate.-count f, tab_few c.args.nodes.now s.0 c.args.list c.args.k v.Empty s.1 c.in-Tabulate.-count c.in-Tabulate.is)
+    let f : SFits w64 c.in-Tabulate._count = search rules in
+    omega (arith, natural_small c.in-Tabulate._count f, tab_few c.args.nodes.now s.0 c.args.list c.args.k v.Empty s.1 c.in-Tabulate._count c.in-Tabulate.is)
 
 pub returns-in-Tabulate : goal.returns-in-Tabulate
 returns-in-Tabulate c = λ κ s m.
-    let f : SFits w64 c.in-Tabulate.-count = search rules in
-    led_tab c.args.nodes.now m κ c.args.list c.args.k v.Empty s c.in-Tabulate.-count c.in-Tabulate.is
-    (omega (arith, natural_small c.in-Tabulate.-count f, tab_few c.args.nodes.now κ c.args.list c.args.k v.Empty s c.in-Tabulate.-count c.in-Tabulate.is))
+    let f : SFits w64 c.in-Tabulate._count = search rules in
+    led_tab c.args.nodes.now m κ c.args.list c.args.k v.Empty s c.in-Tabulate._count c.in-Tabulate.is
+    (omega (arith, natural_small c.in-Tabulate._count f, tab_few c.args.nodes.now κ c.args.list c.args.k v.Empty s c.in-Tabulate._count c.in-Tabulate.is))
 
 pub offset_bounds-measures-inner : goal.offset_bounds-measures-inner
 offset_bounds-measures-inner c = let s = c.requires.sought in

@@ -1,6 +1,6 @@
 use Rattle.std.proofs.Common.{arith}
 use Rattle.model.specs.declared.node.Node.TheVariants.{Empty}
-use Rattle.model.specs.Syntax.{many, vector}
+use Rattle.model.specs.Syntax.{vector}
 use Rattle.probe.proofs.Terms.{inside}
 use Rattle.probe.proofs.Leads.{no_vectors}
 use Rattle.probe.proofs.Onwards.{from_start, one_more}

@@ -28,20 +28,20 @@ bounds g c = let h = here c.args.nodes.now c.args.measures.now c.requires.laid c
 pub bounds-nodes-x : goal.bounds-nodes-x
 bounds-nodes-x g c = let h = here c.args.nodes.now c.args.measures.now c.requires.laid c.args.x c.requires.low.1 in search rules
 
-pub bounds-nodes-x-in-Primitive· : goal.bounds-nodes-x-in-Primitive·
-bounds-nodes-x-in-Primitive· g c = let h = here c.args.nodes.now c.args.measures.now c.requires.laid c.args.x c.requires.low.1 in search rules
+pub bounds-nodes-x-in-Primitive-1 : goal.bounds-nodes-x-in-Primitive-1
+bounds-nodes-x-in-Primitive-1 g c = let h = here c.args.nodes.now c.args.measures.now c.requires.laid c.args.x c.requires.low.1 in search rules
 
 pub bounds-nodes : goal.bounds-nodes
 bounds-nodes g c = let h = here c.args.nodes.now c.args.measures.now c.requires.laid c.args.x c.requires.low.1 in search rules
 
-pub bounds-nodes-in-Place· : goal.bounds-nodes-in-Place·
-bounds-nodes-in-Place· g c = let h = here c.args.nodes.now c.args.measures.now c.requires.laid c.args.x c.requires.low.1 in search rules
+pub bounds-nodes-in-Place-1 : goal.bounds-nodes-in-Place-1
+bounds-nodes-in-Place-1 g c = let h = here c.args.nodes.now c.args.measures.now c.requires.laid c.args.x c.requires.low.1 in search rules
 
 pub overflow_add-result : goal.overflow_add-result
 overflow_add-result g c = let h = here c.args.nodes.now c.args.measures.now c.requires.laid c.args.x c.requires.low.1 in search rules
 
-pub bounds-nodes-in-Join· : goal.bounds-nodes-in-Join·
-bounds-nodes-in-Join· g c = let h = here c.args.nodes.now c.args.measures.now c.requires.laid c.args.x c.requires.low.1 in search rules
+pub bounds-nodes-in-Join-1 : goal.bounds-nodes-in-Join-1
+bounds-nodes-in-Join-1 g c = let h = here c.args.nodes.now c.args.measures.now c.requires.laid c.args.x c.requires.low.1 in search rules
 
 pub overflow_add-list : goal.overflow_add-list
 overflow_add-list g c = let h = here c.args.nodes.now c.args.measures.now c.requires.laid c.args.x c.requires.low.1 in search rules

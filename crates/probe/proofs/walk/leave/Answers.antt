@@ -1,4 +1,4 @@
-use Rattle.std.proofs.Common.{◌≡◌, ℕ, ◌+◌, ◌<◌, Bool, List, [], ◌∷◌, ◌++◌, length, get_or, vec_items, sym, ap, subst, arith}
+use Rattle.std.proofs.Common.{◌≡◌, ℕ, ◌<◌, Bool, List, [], ◌∷◌, ◌++◌, length, get_or, vec_items, sym, ap, subst, arith}
 use Rattle.model.specs.declared.node.Node.{Node}
 use Rattle.model.specs.Counts.{count}
 use Rattle.model.specs.Syntax.{many, solid}

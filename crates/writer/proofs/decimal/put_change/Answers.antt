@@ -12,8 +12,8 @@ returns c =
     let digits = decimal (nat_abs bits) in
     let spelt : (c.if-slope-lt0.sign ∷ digits) ≡ change bits =
     elim c.if-slope-lt0.branch [
-      | then-slope-lt0 w ↦ ap (λ b. b ∷ digits) w.sign_is ∙ sym (change_below_zero bits w.if-slope-lt0.true)
-      | else-slope-lt0 w ↦ ap (λ b. b ∷ digits) w.sign_is ∙ sym (change_from_zero bits w.if-slope-lt0.false)
+      | then-slope-lt0 w ↦ ap (λ b. b ∷ digits) w.sign-is ∙ sym (change_below_zero bits w.if-slope-lt0.true)
+      | else-slope-lt0 w ↦ ap (λ b. b ∷ digits) w.sign-is ∙ sym (change_from_zero bits w.if-slope-lt0.false)
     ] in
     put_as (ap (λ n. c.if-slope-lt0.sign ∷ decimal n) c.from.ensures ∙ ap (λ n. c.if-slope-lt0.sign ∷ decimal n) c.unsigned_abs.ensures.value ∙ spelt ∙ ap change (to_z-of_z w64 c.args.slope c.ranges.slope))
     (put_then c.put_byte-next.ensures c.put_decimal.ensures)

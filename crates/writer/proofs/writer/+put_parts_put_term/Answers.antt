@@ -14,8 +14,8 @@ put_parts-returns-then-next-nodes t c =
       puts = c.loop.invariant.2 c.loop.next c.loop.out (parts_none c.args.nodes.now c.loop.next _ c.loop.out c.loop.invariant.1 (inr c.if-next-nodes.true));
     }
 
-pub put_parts_put_term-next-requires : goal.put_parts_put_term-next-requires
-put_parts_put_term-next-requires t c = (omega (arith, c.loop.invariant.0), c.if-next-nodes.false)
+pub put_parts-put_term-next-requires : goal.put_parts-put_term-next-requires
+put_parts-put_term-next-requires t c = (omega (arith, c.loop.invariant.0), c.if-next-nodes.false)
 
 pub put_parts-loop-preserved : goal.put_parts-loop-preserved
 put_parts-loop-preserved t c = (
