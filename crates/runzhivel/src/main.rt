@@ -14,6 +14,7 @@ use command::Command;
 use failure::{Failure, explain};
 use model::{MOST_BYTES, Table};
 use std::io::Write;
+use std::process::ExitCode;
 
 fn show(rt: &HostRuntime, name: String) -> Result<(), Failure> {
     let bytes = match source::read_bytes(rt, name.as_str()) {
@@ -45,10 +46,12 @@ fn run(rt: &HostRuntime) -> Result<(), Failure> {
     }
 }
 
-fn main(rt: HostRuntime) -> Result<(), Failure> {
-    let done = run(&rt);
-    if let Err(failure) = &done {
-        let _ = explain(&rt, failure);
+fn main(rt: HostRuntime) -> ExitCode {
+    match run(&rt) {
+        Ok(()) => ExitCode::SUCCESS,
+        Err(failure) => {
+            let _ = explain(&rt, &failure);
+            ExitCode::FAILURE
+        }
     }
-    done
 }

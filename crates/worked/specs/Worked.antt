@@ -1,8 +1,6 @@
 -- Cases that were worked out by hand. Assumes nothing.
-use Rattle.std.specs.Prelude.{◌≡◌, ℕ, true, false, List, [], ◌∷◌, ℤ, pos, negsuc, Ok, Err, codes, Result}
+use Rattle.std.specs.Prelude.{◌≡◌, true, false, [], ◌∷◌, ℤ, pos, negsuc, Ok, Err, codes}
 use Rattle.model.specs.declared.node.Placement.TheVariants.{Translate, Scale}
-use Rattle.model.specs.declared.node.Triple.{Triple}
-use Rattle.model.specs.declared.node.Linear.{Linear}
 use Rattle.model.specs.Syntax.{Solid, node, none, more, prim, place, fold, tab}
 use Rattle.model.specs.Syntax as S
 use Rattle.model.specs.Placements.{triple, still, turned}

@@ -1,4 +1,4 @@
-use Rattle.std.proofs.Common.{◌≡◌, refl}
+use Rattle.std.proofs.Common.{refl}
 use Rattle.model.specs.Syntax.{size, sizes, depth, depths}
 use Rattle.model.specs.Tokens.{tokens, row}
 use Rattle.model.specs.Shapes.{run, runs}

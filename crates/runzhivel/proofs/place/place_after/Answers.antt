@@ -1,4 +1,4 @@
-use Rattle.std.proofs.Common.{◌≡◌, sym, ap, ◌∙◌, arith, take_all}
+use Rattle.std.proofs.Common.{ap, ◌∙◌, arith, take_all}
 use Rattle.std.proofs.lemmas.Bool.{eq-eqb, ne_eqb}
 use Rattle.runzhivel.specs.Places.{line_after, column_after}
 use Rattle.runzhivel.proofs.Lines.{line_feed, line_same, column_feed, column_more}
