@@ -3,7 +3,7 @@ use Rattle.std.proofs.Common.{◌≡◌, ℕ, zero, suc, ◌-◌, ◌^◌, ◌<�
 use Rattle.std.specs.Option.{option_map, option_or, option_zip}
 use Rattle.std.specs.Bool.{then_some}
 use Rattle.std.specs.Str.Parse.{digits_value, AllDigits}
-use Rattle.std.specs.Char.{is_ascii_digit, digit_value as digitValue}
+use Rattle.std.specs.Char.{is_ascii_digit, digit_value as value_of_digit}
 use Rattle.std.specs.Str.{all_ascii_digits, bytes_eq}
 use Rattle.std.proofs.lemmas.Str.Parse.{IsNumeralModel, numerals_by_value, tells_digits, tells_all_ascii_digits, digits_value_short}
 use Rattle.std.proofs.lemmas.Bool.{cond-true, cond-false, and_left, and_right, and_from, and_parts, lt-ltb, le-ltb, le-leb, lt-leb, leb-true, eq-eqb, ne_eqb, not_from_true, not_from_false, cond_both}
@@ -11,7 +11,7 @@ use Rattle.std.proofs.lemmas.Bool.Decides.{nat_tests}
 use Rattle.model.specs.Bytes.{natural, natural_of, minus, amount_of, change_of, cut, slope_of, plain_of, number_of, Small, NumberSmall}
 
 -- a digit's value
-pub digit_value : (b : ℕ) → is_ascii_digit b ≡ true → (digitValue b ≡ b - 48) × (digitValue b < 10)
+pub digit_value : (b : ℕ) → is_ascii_digit b ≡ true → (value_of_digit b ≡ b - 48) × (value_of_digit b < 10)
 digit_value b e = (grind (arith, nat_tests), grind (arith, nat_tests))
 
 own : IsNumeralModel (AllDigits 10) (digits_value 10)

@@ -184,7 +184,7 @@ tab_back k d gs us h =
     let c = n.2 in
     inner (many k) gs _ _ (ap (λ l. T.word w.Tabulate ∷ l) (h.1 ∙ ap (λ l. T.mark Open ∷ l) (i.1 ∙ ap (λ l. T.word w.Index ∷ l) (n.1.1 ∙ ap (λ l. T.plain n.1.0 ∷ l) c.1)))) (closed (S.tab n.1.0) d gs c.0 refl tt refl c.2)
 
-map2_back : (k : Kind) (d : ℕ) (gs : List Goal) (us : List Token) → After (G.map2Move k d gs) us → Inner (many k) gs (T.word w.Map2 ∷ us)
+map2_back : (k : Kind) (d : ℕ) (gs : List Goal) (us : List Token) → After (G.map2_move k d gs) us → Inner (many k) gs (T.word w.Map2 ∷ us)
 map2_back solid d gs us h = inner (many solid) gs _ _ (ap (λ l. T.word w.Map2 ∷ l) h.1.1) (closed (S.map2 h.1.0) d gs h.0 refl tt refl h.2)
 map2_back vector d gs us h = absurd h
 

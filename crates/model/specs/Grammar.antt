@@ -131,9 +131,9 @@ after_solid_word d gs w.Map2 = stuck
 after_solid_word d gs w.Index = stuck
 
 -- Map2 gives solids only
-abbrev pub map2Move : Kind → ℕ → List Goal → Move
-map2Move solid d gs = on (placement ∷ list vector d ∷ list solid d ∷ mark Close ∷ gs)
-map2Move vector d gs = stuck
+abbrev pub map2_move : Kind → ℕ → List Goal → Move
+map2_move solid d gs = on (placement ∷ list vector d ∷ list solid d ∷ mark Close ∷ gs)
+map2_move vector d gs = stuck
 
 -- the word after a list's bracket
 abbrev pub after_list_word : Kind → ℕ → List Goal → Word → Move
@@ -152,7 +152,7 @@ after_list_word k d gs w.Tabulate = on (mark Open ∷ index ∷ plain ∷ mark C
 after_list_word k d gs w.Concat = on (list k d ∷ list k d ∷ mark Close ∷ gs)
 after_list_word k d gs w.Sort = stuck
 after_list_word k d gs w.Unsort = stuck
-after_list_word k d gs w.Map2 = map2Move k d gs
+after_list_word k d gs w.Map2 = map2_move k d gs
 after_list_word k d gs w.Index = stuck
 
 -- an element begins with a bracket of its own form, or is Empty

@@ -25,7 +25,7 @@ impl Node {
 }
 
 // The term that begins at a place.
-#[cycle(parts_extent_term_extent)]
+#[cycle(extents)]
 fn term_extent(nodes: &[Node], place: usize) -> Extent
     requires { place < length nodes.now }
     ensures within { (result.depth + place ≤ result.end) × (place < result.end) × (result.end ≤ length nodes.now) }
@@ -39,7 +39,7 @@ fn term_extent(nodes: &[Node], place: usize) -> Extent
 }
 
 // So many terms in a row: the depth is the deepest one's.
-#[cycle(parts_extent_term_extent)]
+#[cycle(extents)]
 fn parts_extent(nodes: &[Node], place: usize, count: usize) -> Extent
     requires { place ≤ length nodes.now }
     ensures within { (result.depth + place ≤ result.end) × (result.end ≤ length nodes.now) }

@@ -1,7 +1,7 @@
 // Numbers that are linear in the loop index, exact for every number of 64 bits.
 ghost use Rattle.std.specs.Prelude.{◌≡◌, ◌^◌, ◌<◌, ◌||◌};
 ghost use Rattle.model.specs.Legality.{beyond};
-ghost use Rattle.model.specs.Placements.{at as atIndex, linear};
+ghost use Rattle.model.specs.Placements.{at as at_index, linear};
 ghost use Rattle.probe.specs.Moving.{bounded};
 
 use model::{Linear, Triple};
@@ -30,7 +30,7 @@ pub(crate) fn some_beyond(most: u64, x: i128, y: i128, z: i128) -> bool
 pub(crate) fn bounded_at(most: u64, vector: Linear, index: u64) -> Option<Triple>
     requires few { index < 2 ^ 63 }
     requires small { most < 2 ^ 63 }
-    ensures { result ≡ bounded most (atIndex index vector) }
+    ensures { result ≡ bounded most (at_index index vector) }
 {
     let Linear { constant, slope } = vector;
     let x = value(constant.x, slope.x, index);

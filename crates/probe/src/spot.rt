@@ -1,6 +1,6 @@
 // Where a point gets to by placements.
 ghost use Rattle.std.specs.Prelude.{◌≡◌, ◌^◌, ◌<◌, ◌≤◌, true, ◌-ℤ◌, ◌*ℤ◌, unsigned_abs};
-ghost use Rattle.model.specs.Placements.{at as atIndex, translated, rotated, quarter as quarterOf, quarters};
+ghost use Rattle.model.specs.Placements.{at as at_index, translated, rotated, quarter as quarter_of, quarters};
 ghost use Rattle.model.specs.Families.{rescaled, signed};
 ghost use Rattle.family.specs.Reaching.{between, in_reach};
 ghost use Rattle.probe.specs.Moving.{spot_of, moves, Reached, Small, Turned};
@@ -105,7 +105,7 @@ fn rescale(by: Triple, at: Point) -> Point
 
 /// The quarters in a number of degrees, rounded down.
 fn quarter(degrees: i128) -> u8
-    ensures { quarters result ≡ quarterOf degrees }
+    ensures { quarters result ≡ quarter_of degrees }
 {
     if degrees >= 0 {
         (degrees as u128 / 90 % 4) as u8
@@ -130,7 +130,7 @@ fn turn_back(quarter: u8, a: i64, b: i64) -> (i64, i64)
 fn slid(vector: Linear, index: u64, at: Point) -> Spot
     requires few { index < 2 ^ 63 }
     requires near { in_reach at ≡ true }
-    ensures { result ≡ spot_of (translated (atIndex index vector) at) }
+    ensures { result ≡ spot_of (translated (at_index index vector) at) }
 {
     match bounded_at(LONGEST_WAY, vector, index) {
         Some(by) => reached(translate(by, at)),
@@ -141,7 +141,7 @@ fn slid(vector: Linear, index: u64, at: Point) -> Spot
 fn scaled(vector: Linear, index: u64, at: Point) -> Spot
     requires few { index < 2 ^ 63 }
     requires near { in_reach at ≡ true }
-    ensures { result ≡ spot_of (rescaled (atIndex index vector) at) }
+    ensures { result ≡ spot_of (rescaled (at_index index vector) at) }
 {
     match bounded_at(LARGEST_FACTOR, vector, index) {
         Some(by) => reached(rescale(by, at)),
@@ -152,7 +152,7 @@ fn scaled(vector: Linear, index: u64, at: Point) -> Spot
 fn turned(vector: Linear, index: u64, at: Point) -> Spot
     requires few { index < 2 ^ 63 }
     requires near { in_reach at ≡ true }
-    ensures { result ≡ spot_of (rotated (atIndex index vector) at) }
+    ensures { result ≡ spot_of (rotated (at_index index vector) at) }
 {
     let Linear { constant, slope } = vector;
     let about_z = turn_back(quarter(value(constant.z, slope.z, index)), at.x, at.y);
@@ -174,7 +174,7 @@ fn turned(vector: Linear, index: u64, at: Point) -> Spot
 pub(crate) fn moved(placement: Placement, vector: Linear, index: u64, spot: Spot) -> Spot
     requires few { index < 2 ^ 63 }
     requires near { Reached spot }
-    ensures is { result ≡ moves placement (atIndex index vector) spot }
+    ensures is { result ≡ moves placement (at_index index vector) spot }
     ensures near { Reached result }
 {
     match spot {

@@ -4,9 +4,9 @@ ghost use Rattle.model.specs.declared.node.Node.TheVariants.{Empty, Join};
 ghost use Rattle.model.specs.Syntax.{one, solid};
 ghost use Rattle.probe.specs.declared.spot.Spot.TheVariants.{At};
 ghost use Rattle.model.specs.Families.{Meaning};
-ghost use Rattle.model.specs.Placements.{at as atIndex};
+ghost use Rattle.model.specs.Placements.{at as at_index};
 ghost use Rattle.model.specs.Shapes.{natural};
-ghost use Rattle.model.specs.Unrolling.{primitive as primitiveOf, apply, belonging};
+ghost use Rattle.model.specs.Unrolling.{primitive as primitive_of, apply, belonging};
 ghost use Rattle.program.specs.Measures.{nothing};
 ghost use Rattle.family.specs.Reaching.{in_reach};
 ghost use Rattle.probe.specs.Terms.{Laid};
@@ -65,7 +65,7 @@ fn is_in<F: Family>(family: &F, primitive: Primitive, at: Point) -> bool
 fn sized_in<F: Family>(family: &F, kind: u16, sizes: Linear, index: u64, at: Point) -> bool
     requires few { index < 2 ^ 63 }
     requires near { in_reach at ≡ true }
-    ensures { result ≡ (asked (F.Family.meaning family.now)).contains (record { kind = kind; sizes = atIndex index sizes }) at }
+    ensures { result ≡ (asked (F.Family.meaning family.now)).contains (record { kind = kind; sizes = at_index index sizes }) at }
 {
     match bounded_at(LARGEST_SIZE, sizes, index) {
         Some(sizes) => is_in(family, Primitive { kind, sizes }, at),
@@ -77,7 +77,7 @@ fn sized_in<F: Family>(family: &F, kind: u16, sizes: Linear, index: u64, at: Poi
 fn contains<F: Family>(family: &F, kind: i64, sizes: Linear, index: u64, at: Point) -> bool
     requires few { index < 2 ^ 63 }
     requires near { in_reach at ≡ true }
-    ensures { result ≡ (asked (F.Family.meaning family.now)).contains (primitiveOf kind (atIndex index sizes)) at }
+    ensures { result ≡ (asked (F.Family.meaning family.now)).contains (primitive_of kind (at_index index sizes)) at }
 {
     match kind_of(kind) {
         Some(kind) => sized_in(family, kind, sizes, index, at),

@@ -6,7 +6,7 @@ ghost use Rattle.model.specs.Syntax.{size as size_of, depth as depth_of};
 ghost use Rattle.model.specs.Orders.{Ordered};
 ghost use Rattle.model.specs.Counts.{weight};
 ghost use Rattle.model.specs.Tables.{held};
-ghost use Rattle.model.specs.Legality.{root, first as firstIn, culprit as culpritIn, fault as faultOf};
+ghost use Rattle.model.specs.Legality.{root, first as first_in, culprit as culprit_in, fault as fault_of};
 ghost use Rattle.program.specs.Judging.{KeptBefore};
 
 use super::judge::measure_at;
@@ -46,7 +46,7 @@ impl Layout {
 
     // The first node that breaks a law; that on primitives, if all keep that on numbers.
     fn first<'a, F: Family>(&'a self, family: &'a F, law: Law) -> Option<usize>
-        ensures { (law ≡ Primitives → firstIn (F.Family.meaning family.now) Numbers root (held self.now.table) 0 ≡ None) → result ≡ firstIn (F.Family.meaning family.now) law root (held self.now.table) 0 }
+        ensures { (law ≡ Primitives → first_in (F.Family.meaning family.now) Numbers root (held self.now.table) 0 ≡ None) → result ≡ first_in (F.Family.meaning family.now) law root (held self.now.table) 0 }
     {
         let judge = Judge {
             law,
@@ -59,7 +59,7 @@ impl Layout {
 
     // The node that is told of where a law is broken, if the laws that have to be kept before are; what the whole breaks is told of node 0.
     fn culprit<F: Family>(&self, family: &F, law: Law) -> Option<usize>
-        ensures { Ordered (held self.now.table) → KeptBefore (F.Family.meaning family.now) (held self.now.table) law → result ≡ culpritIn (F.Family.meaning family.now) (held self.now.table) law }
+        ensures { Ordered (held self.now.table) → KeptBefore (F.Family.meaning family.now) (held self.now.table) law → result ≡ culprit_in (F.Family.meaning family.now) (held self.now.table) law }
     {
         match law {
             Law::Size => { if self.is_too_large() { Some(0) } else { None } }
@@ -76,7 +76,7 @@ impl Layout {
 
     /// The first law that the program breaks, and the first node that breaks it.
     pub fn fault<F: Family>(&self, family: &F) -> Option<Fault>
-        ensures { Ordered (held self.now.table) → result ≡ faultOf (F.Family.meaning family.now) (held self.now.table) }
+        ensures { Ordered (held self.now.table) → result ≡ fault_of (F.Family.meaning family.now) (held self.now.table) }
     {
         for law in LAWS {
             if let Some(node) = self.culprit(family, law) {

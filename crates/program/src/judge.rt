@@ -2,7 +2,7 @@
 ghost use Rattle.std.specs.Prelude.{◌≡◌, ℕ, ◌^◌, ◌<◌, List, slice_index_or};
 ghost use Rattle.model.specs.Families.{Meaning};
 ghost use Rattle.model.specs.declared.law.Law.TheVariants.{Loops, Numbers, Pairs, Lengths};
-ghost use Rattle.model.specs.Legality.{breaks as isBroken, below as contextBelow};
+ghost use Rattle.model.specs.Legality.{breaks as is_broken, below as context_below};
 ghost use Rattle.program.specs.Measures.{nothing};
 ghost use Rattle.program.specs.Judging.{Counted, counts_told};
 
@@ -11,7 +11,7 @@ use super::measure::Measure;
 use model::{Context, MOST_ELEMENTS, Node, Placement};
 
 pub(crate) fn breaks_loops(node: Node, context: Context) -> bool
-    ensures { (m : Meaning) (cs : List ℕ) → result ≡ isBroken m context cs node Loops }
+    ensures { (m : Meaning) (cs : List ℕ) → result ≡ is_broken m context cs node Loops }
 {
     match node {
         Node::Primitive(_, v) | Node::Place(_, v) | Node::Vector(v) => is_loose(context, v),
@@ -21,7 +21,7 @@ pub(crate) fn breaks_loops(node: Node, context: Context) -> bool
 }
 
 pub(crate) fn breaks_numbers(node: Node, context: Context) -> bool
-    ensures { (m : Meaning) (cs : List ℕ) → result ≡ isBroken m context cs node Numbers }
+    ensures { (m : Meaning) (cs : List ℕ) → result ≡ is_broken m context cs node Numbers }
 {
     match node {
         Node::Primitive(kind, sizes) => is_unkind(kind)
@@ -43,7 +43,7 @@ pub(crate) struct Counts {
 }
 
 pub(crate) fn breaks_pairs(node: Node, counts: Counts) -> bool
-    ensures { (m : Meaning) (c : Context) (cs : List ℕ) → Counted counts node cs → result ≡ isBroken m c cs node Pairs }
+    ensures { (m : Meaning) (c : Context) (cs : List ℕ) → Counted counts node cs → result ≡ is_broken m c cs node Pairs }
 {
     match node {
         Node::Map2(_) => counts.first != counts.second,
@@ -52,7 +52,7 @@ pub(crate) fn breaks_pairs(node: Node, counts: Counts) -> bool
 }
 
 pub(crate) fn breaks_lengths(node: Node, counts: Counts) -> bool
-    ensures { (m : Meaning) (c : Context) (cs : List ℕ) → Counted counts node cs → result ≡ isBroken m c cs node Lengths }
+    ensures { (m : Meaning) (c : Context) (cs : List ℕ) → Counted counts node cs → result ≡ is_broken m c cs node Lengths }
 {
     MOST_ELEMENTS < counts.own
 }
@@ -87,7 +87,7 @@ pub(crate) fn counts_at(measures: &[Measure], place: usize) -> Counts
 
 /// Where the parts of a node stand.
 pub(crate) fn below(node: Node, context: Context) -> Context
-    ensures { result ≡ contextBelow node context }
+    ensures { result ≡ context_below node context }
 {
     match node {
         Node::Tabulate(count) => Context {

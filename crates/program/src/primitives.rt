@@ -2,7 +2,7 @@
 ghost use Rattle.std.specs.Prelude.{◌≡◌, ℕ, false, List};
 ghost use Rattle.model.specs.declared.law.Law.TheVariants.{Numbers, Primitives};
 ghost use Rattle.model.specs.declared.node.Placement.TheVariants.{Translate};
-ghost use Rattle.model.specs.Legality.{unkind, wild, unknown, breaks as isBroken};
+ghost use Rattle.model.specs.Legality.{unkind, wild, unknown, breaks as is_broken};
 
 use super::bounds::{is_unkind, sizes_at, turns_asked};
 use family::Family;
@@ -30,7 +30,7 @@ fn is_unknown<F: Family>(family: &F, context: Context, kind: i64, v: Linear) -> 
 
 /// Whether a node that keeps the law on numbers breaks the law on primitives.
 pub(crate) fn breaks_primitives<F: Family>(family: &F, node: Node, context: Context) -> bool
-    ensures { (cs : List ℕ) → isBroken (F.Family.meaning family.now) context cs node Numbers ≡ false → result ≡ isBroken (F.Family.meaning family.now) context cs node Primitives }
+    ensures { (cs : List ℕ) → is_broken (F.Family.meaning family.now) context cs node Numbers ≡ false → result ≡ is_broken (F.Family.meaning family.now) context cs node Primitives }
 {
     match node {
         Node::Primitive(kind, v) => is_unknown(family, context, kind, v),

@@ -1,7 +1,7 @@
 // The first node that breaks a law, in reading order.
 ghost use Rattle.std.specs.Prelude.{◌≡◌, ℕ, ◌<◌, ◌≤◌, false, List, length, IfOk};
 ghost use Rattle.model.specs.declared.law.Law.TheVariants.{Numbers, Primitives};
-ghost use Rattle.model.specs.Legality.{breaks as isBroken};
+ghost use Rattle.model.specs.Legality.{breaks as is_broken};
 ghost use Rattle.program.specs.Judging.{Counted, TermJudged, PartsJudged};
 
 use super::judge::{
@@ -24,7 +24,7 @@ pub(crate) struct Judge<'a, F> {
 impl<'a, F: Family> Judge<'a, F> {
     // Whether a node breaks the law; that on primitives, if it keeps that on numbers.
     fn breaks(&self, node: Node, context: Context, counts: Counts) -> bool
-        ensures { (cs : List ℕ) → Counted counts node cs → (self.now.law ≡ Primitives → isBroken (F.Family.meaning self.now.family.now) context cs node Numbers ≡ false) → result ≡ isBroken (F.Family.meaning self.now.family.now) context cs node self.now.law }
+        ensures { (cs : List ℕ) → Counted counts node cs → (self.now.law ≡ Primitives → is_broken (F.Family.meaning self.now.family.now) context cs node Numbers ≡ false) → result ≡ is_broken (F.Family.meaning self.now.family.now) context cs node self.now.law }
     {
         match self.law {
             Law::Size => false,
@@ -37,7 +37,7 @@ impl<'a, F: Family> Judge<'a, F> {
     }
 
     /// Where the term that begins at a place ends, or its first node that breaks the law.
-    #[cycle(parts_term)]
+    #[cycle(judging)]
     pub(crate) fn term(&self, place: usize, context: Context) -> Result<usize, usize>
         requires { place < length self.now.nodes.now }
         ensures within { IfOk result (λ end. (place < end) × (end ≤ length self.now.nodes.now)) }
@@ -51,7 +51,7 @@ impl<'a, F: Family> Judge<'a, F> {
     }
 
     // The same of so many terms in a row.
-    #[cycle(parts_term)]
+    #[cycle(judging)]
     fn parts(&self, place: usize, count: usize, context: Context) -> Result<usize, usize>
         requires { place ≤ length self.now.nodes.now }
         ensures within { IfOk result (λ end. (place ≤ end) × (end ≤ length self.now.nodes.now)) }

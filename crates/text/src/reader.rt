@@ -37,7 +37,7 @@ fn room_for(levels: u16, count: usize, span: Span) -> Result<(), Refusal>
     Ok(())
 }
 
-#[cycle(element_from_read_element_read_elements_read_inside_read_inside_list_read_list_solid_from)]
+#[cycle(reading)]
 fn read_element(
     src: &mut Lexer<'_>,
     element: Element,
@@ -58,7 +58,7 @@ fn read_element(
 }
 
 // An element whose first token is taken.
-#[cycle(element_from_read_element_read_elements_read_inside_read_inside_list_read_list_solid_from)]
+#[cycle(reading)]
 fn element_from(
     token: Token<'_>,
     src: &mut Lexer<'_>,
@@ -115,7 +115,7 @@ fn vector_from(
     Ok(())
 }
 
-#[cycle(element_from_read_element_read_elements_read_inside_read_inside_list_read_list_solid_from)]
+#[cycle(reading)]
 fn solid_from(
     token: Token<'_>,
     src: &mut Lexer<'_>,
@@ -153,7 +153,7 @@ fn solid_from(
 }
 
 // The rest of a solid after its bracket, whose parts have `levels` left.
-#[cycle(element_from_read_element_read_elements_read_inside_read_inside_list_read_list_solid_from)]
+#[cycle(reading)]
 fn read_inside(src: &mut Lexer<'_>, levels: u16, out: &mut Vec<Node>) -> Result<(), Refusal>
     requires cap { 640 ≤ vec_capacity out.old }
     requires len { vec_len out.old < 640 }
@@ -203,7 +203,7 @@ fn read_inside(src: &mut Lexer<'_>, levels: u16, out: &mut Vec<Node>) -> Result<
     }
 }
 
-#[cycle(element_from_read_element_read_elements_read_inside_read_inside_list_read_list_solid_from)]
+#[cycle(reading)]
 fn read_list(
     src: &mut Lexer<'_>,
     element: Element,
@@ -232,7 +232,7 @@ fn read_list(
 }
 
 // The rest of a list after its bracket, whose parts have `levels` left.
-#[cycle(element_from_read_element_read_elements_read_inside_read_inside_list_read_list_solid_from)]
+#[cycle(reading)]
 fn read_inside_list(
     src: &mut Lexer<'_>,
     element: Element,
@@ -296,7 +296,7 @@ fn read_inside_list(
 }
 
 // The elements that are left of a list and its closing bracket; says how many they were.
-#[cycle(element_from_read_element_read_elements_read_inside_read_inside_list_read_list_solid_from)]
+#[cycle(reading)]
 fn read_elements(
     src: &mut Lexer<'_>,
     element: Element,

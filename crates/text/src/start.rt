@@ -58,7 +58,7 @@ fn own_tokens(node: Node, place: usize, end: usize, target: usize) -> usize
 }
 
 // The term that begins at a place: of its tokens those before the target are counted, which are all or none if the target is not in it.
-#[cycle(walk_parts_walk_term)]
+#[cycle(walking)]
 fn walk_term(nodes: &[Node], place: usize, target: usize) -> Walk
     requires { (place < length nodes.now) × (length nodes.now ≤ most_nodes) }
     ensures within { (place < result.end) × (result.end ≤ length nodes.now) × (result.tokens + most_own * place ≤ most_own * result.end) }
@@ -73,7 +73,7 @@ fn walk_term(nodes: &[Node], place: usize, target: usize) -> Walk
 }
 
 // So many terms in a row, counted in the same way.
-#[cycle(walk_parts_walk_term)]
+#[cycle(walking)]
 fn walk_parts(nodes: &[Node], place: usize, count: usize, target: usize) -> Walk
     requires { (place ≤ length nodes.now) × (length nodes.now ≤ most_nodes) }
     ensures within { (place ≤ result.end) × (result.end ≤ length nodes.now) × (result.tokens + most_own * place ≤ most_own * result.end) }

@@ -3,9 +3,9 @@
 ghost use Rattle.std.specs.Prelude.{◌≡◌, ◌≤◌, slice_index_or};
 ghost use Rattle.model.specs.declared.node.Triple.{Triple};
 ghost use Rattle.model.specs.Syntax.{Kind, Solid, vector};
-ghost use Rattle.model.specs.Placements.{linear, at as «at_index»};
+ghost use Rattle.model.specs.Placements.{linear, at as at_index};
 ghost use Rattle.model.specs.Shapes.{Val};
-ghost use Rattle.writer.specs.Elements.{nodes_of, exact, TellsHere, part as «part_of», Follows, Hops, Holds, IsItem, Behind};
+ghost use Rattle.writer.specs.Elements.{nodes_of, exact, TellsHere, part as part_of, Follows, Hops, Holds, IsItem, Behind};
 
 use model::{Linear, Node, Placement};
 use program::{Layout, Measure};
@@ -73,7 +73,7 @@ pub fn measure_at(layout: &Layout, place: usize) -> Measure
 impl Term {
     /// Its first part.
     pub fn part(self) -> Term
-        ensures { result ≡ «part_of» self }
+        ensures { result ≡ part_of self }
     {
         Term {
             place: self.place.saturating_add(1),
@@ -114,7 +114,7 @@ fn number_at(constant: i64, slope: i64, index: u64) -> i128
 }
 
 pub fn vector_at(v: Linear, index: u64) -> Wide
-    ensures { exact result ≡ «at_index» index v }
+    ensures { exact result ≡ at_index index v }
 {
     Wide {
         x: number_at(v.constant.x, v.slope.x, index),

@@ -68,7 +68,7 @@ fn put_closings(out: &mut [u8], at: usize, count: u128) -> usize
 }
 
 // Puts what a solid comes to.
-#[cycle(put_item_put_solid_put_union)]
+#[cycle(unrolling)]
 fn put_solid(out: &mut [u8], layout: &Layout, term: Term, at: usize) -> usize
     ensures { SolidPut (nodes_of layout.now) term at out.old result out.new }
 {
@@ -95,7 +95,7 @@ fn put_solid(out: &mut [u8], layout: &Layout, term: Term, at: usize) -> usize
 
 // Puts the union of a list's elements. Each Union but for its closing bracket stands before the
 // next one, so a loop will do.
-#[cycle(put_item_put_solid_put_union)]
+#[cycle(unrolling)]
 fn put_union(out: &mut [u8], layout: &Layout, list: Term, at: usize) -> usize
     ensures { UnionPut (nodes_of layout.now) list at out.old result out.new }
 {
@@ -115,7 +115,7 @@ fn put_union(out: &mut [u8], layout: &Layout, list: Term, at: usize) -> usize
 }
 
 // Puts what the element `k` of a list of solids comes to.
-#[cycle(put_item_put_solid_put_union)]
+#[cycle(unrolling)]
 fn put_item(out: &mut [u8], layout: &Layout, list: Term, k: u128, at: usize) -> usize
     ensures { ItemPut (nodes_of layout.now) list k at out.old result out.new }
 {

@@ -128,7 +128,7 @@ fn put_closing(out: &mut [u8], at: usize, node: Node) -> usize
 }
 
 // Puts the expression whose nodes begin at a spot, and answers the spot after it.
-#[cycle(put_parts_put_term)]
+#[cycle(putting)]
 fn put_term(out: &mut [u8], nodes: &[Node], from: Spot) -> Spot
     requires { from.place < length nodes.now }
     ensures ahead { from.place < result.place }
@@ -146,7 +146,7 @@ fn put_term(out: &mut [u8], nodes: &[Node], from: Spot) -> Spot
 }
 
 // Puts so many expressions, each after a space.
-#[cycle(put_parts_put_term)]
+#[cycle(putting)]
 fn put_parts(out: &mut [u8], nodes: &[Node], from: Spot, count: usize) -> Spot
     ensures ahead { from.place ≤ result.place }
     ensures puts { PartsPut nodes.now from count out.old result out.new }

@@ -9,7 +9,7 @@ use Rattle.text.specs.Reading.{closes}
 use Rattle.text.specs.Forms.{kind_of, solid_word}
 use Rattle.text.specs.Lexer.{ahead, token_of, span_of}
 use Rattle.text.proofs.Ways.{none_read, also_read, one_read, node_read, more_read, listed_read, map2_solid, one_more, closing_mark}
-use Rattle.text.proofs.reader.+element_from_read_element_read_elements_read_inside_read_inside_list_read_list_solid_from.Goals as goal
+use Rattle.text.proofs.reader.+reading.Goals as goal
 
 pub read_inside-returns-in_ok-mark-in-Primitive : goal.read_inside-returns-in_ok-mark-in-Primitive
 read_inside-returns-in_ok-mark-in-Primitive t c =

@@ -1,5 +1,5 @@
 use Rattle.std.proofs.Common.{◌+◌, ◌-◌, ◌*◌, length}
-use Rattle.model.proofs.extent.+parts_extent_term_extent.Given as goal
+use Rattle.model.proofs.extent.+extents.Given as goal
 
 abbrev pub decreases-parts_extent : goal.decreases-parts_extent
 decreases-parts_extent l = 2 * (length l.nodes.now - l.place) + 1

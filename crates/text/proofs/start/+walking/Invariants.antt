@@ -1,5 +1,5 @@
 use Rattle.std.proofs.Common.{◌+◌, ◌-◌, ◌*◌, length}
-use Rattle.text.proofs.start.+walk_parts_walk_term.Given as goal
+use Rattle.text.proofs.start.+walking.Given as goal
 
 abbrev pub decreases-walk_parts : goal.decreases-walk_parts
 decreases-walk_parts l = 2 * (length l.nodes.now - l.place) + 1

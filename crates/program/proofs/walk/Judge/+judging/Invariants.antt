@@ -1,5 +1,5 @@
 use Rattle.std.proofs.Common.{◌+◌, ◌-◌, ◌*◌, length}
-use Rattle.program.proofs.walk.Judge.+parts_term.Given as goal
+use Rattle.program.proofs.walk.Judge.+judging.Given as goal
 
 abbrev pub decreases-parts : goal.decreases-parts
 decreases-parts g l = 2 * (length l.self.now.nodes.now - l.place) + 1

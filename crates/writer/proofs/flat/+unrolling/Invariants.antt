@@ -5,7 +5,7 @@ use Rattle.model.specs.Unrolling.{programs}
 use Rattle.writer.specs.Putting.{Put}
 use Rattle.writer.specs.Elements.{nodes_of, Begins}
 use Rattle.writer.proofs.Unions.{unions}
-use Rattle.writer.proofs.flat.+put_item_put_solid_put_union.Given as goal
+use Rattle.writer.proofs.flat.+unrolling.Given as goal
 
 -- the elements before k were put, each with a Union before it
 abbrev pub invariant-put_union-loop-k : goal.invariant-put_union-loop-k

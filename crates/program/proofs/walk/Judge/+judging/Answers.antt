@@ -3,8 +3,8 @@ use Rattle.std.proofs.lemmas.List.{drop_more}
 use Rattle.model.specs.declared.node.Node.TheVariants.{Empty}
 use Rattle.program.specs.Judging.{Counted, PartsJudged}
 use Rattle.program.proofs.Walks.{Tested, term_broken, term_parts, parts_none, parts_broken, parts_more}
-use Rattle.program.proofs.walk.Judge.+parts_term.Goals as goal
-use Rattle.program.proofs.walk.Judge.+parts_term.Goals.{parts-then-count-eq0-via-then-count-eq0, parts-then-count-eq0-via-else-count-eq0+then-place-self}
+use Rattle.program.proofs.walk.Judge.+judging.Goals as goal
+use Rattle.program.proofs.walk.Judge.+judging.Goals.{parts-then-count-eq0-via-then-count-eq0, parts-then-count-eq0-via-else-count-eq0+then-place-self}
 
 pub parts-returns-then-count-eq0 : goal.parts-returns-then-count-eq0
 parts-returns-then-count-eq0 g t c =

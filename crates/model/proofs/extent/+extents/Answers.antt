@@ -3,7 +3,7 @@ use Rattle.std.proofs.lemmas.List.{drop_more}
 use Rattle.model.specs.declared.node.Node.TheVariants.{Empty}
 use Rattle.model.specs.Depths.{PartsExtent}
 use Rattle.model.proofs.Extents.{term_extent, parts_none, parts_more}
-use Rattle.model.proofs.extent.+parts_extent_term_extent.Goals as goal
+use Rattle.model.proofs.extent.+extents.Goals as goal
 
 pub parts_extent-returns-then-count-eq0 : goal.parts_extent-returns-then-count-eq0
 parts_extent-returns-then-count-eq0 t c =

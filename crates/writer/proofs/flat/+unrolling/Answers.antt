@@ -13,7 +13,7 @@ use Rattle.writer.proofs.Puts.{put_then, put_as}
 use Rattle.writer.proofs.Items.{first_part, list_long, list_holds}
 use Rattle.writer.proofs.Solids.{is_empty, is_primitive, is_placed, is_joined, is_folded, no_solid}
 use Rattle.writer.proofs.Unions.{text_placed, text_joined, text_empty, unions, unions_more, text_union}
-use Rattle.writer.proofs.flat.+put_item_put_solid_put_union.Goals as goal
+use Rattle.writer.proofs.flat.+unrolling.Goals as goal
 
 pub put_item-returns-in-Absent : goal.put_item-returns-in-Absent
 put_item-returns-in-Absent t c x has = absurd (c.in-Absent.ensures.comes solid x has)

@@ -1,7 +1,7 @@
 use Rattle.std.proofs.Common.{ℕ, ◌+◌, ◌-◌, ◌*◌, ◌^◌, ◌<◌, ◌≤◌, List, length}
 use Rattle.writer.specs.declared.writer.Spot.{Spot}
 use Rattle.writer.specs.Writing.{PartsPut}
-use Rattle.writer.proofs.writer.+put_parts_put_term.Given as goal
+use Rattle.writer.proofs.writer.+putting.Given as goal
 
 -- who puts the expressions that are left has put them all
 abbrev pub invariant-put_parts-loop : goal.invariant-put_parts-loop

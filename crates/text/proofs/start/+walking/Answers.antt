@@ -2,7 +2,7 @@ use Rattle.std.proofs.Common.{◌≡◌, ◌^◌, ◌<◌, ◌≤◌, ◌⊎◌,
 use Rattle.std.proofs.lemmas.List.{drop_more}
 use Rattle.model.specs.declared.node.Node.TheVariants.{Empty}
 use Rattle.text.proofs.Walks.{own_few, term_walk, parts_none, parts_more}
-use Rattle.text.proofs.start.+walk_parts_walk_term.Goals as goal
+use Rattle.text.proofs.start.+walking.Goals as goal
 
 pub walk_parts-returns-then-count-eq0 : goal.walk_parts-returns-then-count-eq0
 walk_parts-returns-then-count-eq0 t c =

@@ -2,7 +2,7 @@ use Rattle.std.proofs.Common.{◌^◌, ◌<◌, length, get_or, inl, inr, arith,
 use Rattle.std.proofs.lemmas.List.{drop_more}
 use Rattle.model.specs.declared.node.Node.TheVariants.{Empty}
 use Rattle.writer.proofs.Programs.{term_put, parts_none, parts_more}
-use Rattle.writer.proofs.writer.+put_parts_put_term.Goals as goal
+use Rattle.writer.proofs.writer.+putting.Goals as goal
 
 pub put_parts-loop-init : goal.put_parts-loop-init
 put_parts-loop-init t c = (omega arith, search rules, λ r new p ss es rest is stands. p ss es rest (omega arith) stands)

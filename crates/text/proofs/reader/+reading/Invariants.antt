@@ -1,5 +1,5 @@
 use Rattle.std.proofs.Common.{◌+◌, ◌-◌, ◌*◌, length}
-use Rattle.text.proofs.reader.+element_from_read_element_read_elements_read_inside_read_inside_list_read_list_solid_from.Given as goal
+use Rattle.text.proofs.reader.+reading.Given as goal
 
 -- the bytes left fall with each token; with none taken, an element is handed on to a solid and to what follows its bracket
 abbrev pub decreases-element_from : goal.decreases-element_from
