@@ -29,6 +29,5 @@ fn run(rt: &HostRuntime) -> anyhow::Result<()> {
 }
 
 fn main(rt: HostRuntime) -> anyhow::Result<()> {
-    let done = run(&rt);
-    done
+    run(&rt)
 }
