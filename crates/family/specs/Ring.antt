@@ -4,13 +4,13 @@ use Rattle.std.proofs.Common.{sym, ◌∙◌, ap}
 use Rattle.std.proofs.Math.IntN.{suc_ℤ, pred_ℤ, suc_ℤ-+ℤ, pred_ℤ-+ℤ, +ℤ_idl, +ℤ_assoc, +ℤ_comm, suc_ℤ-*ℤ, pred_ℤ-*ℤ, zero-*ℤ, *ℤ_comm, +ℤ_invl, +ℤ_invr, +ℤ_idr, neg_ℤ-+ℤ, neg_ℤ-neg_ℤ}
 
 -- induction up and down from zero
-ℤWalk : (P : ℤ → Type 0) → P (pos zero) → ((k : ℤ) → P k → P (suc_ℤ k)) → ((k : ℤ) → P k → P (pred_ℤ k)) → (k : ℤ) → P k
-ℤWalk P z s p (pos n) = above n
+ℤ_walk : (P : ℤ → Type 0) → P (pos zero) → ((k : ℤ) → P k → P (suc_ℤ k)) → ((k : ℤ) → P k → P (pred_ℤ k)) → (k : ℤ) → P k
+ℤ_walk P z s p (pos n) = above n
   where
     above : (n : ℕ) → P (pos n)
     above zero = z
     above (suc n) = s (pos n) (above n)
-ℤWalk P z s p (negsuc n) = below n
+ℤ_walk P z s p (negsuc n) = below n
   where
     below : (n : ℕ) → P (negsuc n)
     below zero = p (pos zero) z
@@ -22,7 +22,7 @@ pub +ℤ-left-comm : (a b c : ℤ) → a +ℤ (b +ℤ c) ≡ b +ℤ (a +ℤ c)
 
 -- a product of a sum, from either side
 pub distrib_r : (m n k : ℤ) → (m +ℤ n) *ℤ k ≡ m *ℤ k +ℤ n *ℤ k
-distrib_r m n k = ℤWalk (λ m. (m +ℤ n) *ℤ k ≡ m *ℤ k +ℤ n *ℤ k) base up down m
+distrib_r m n k = ℤ_walk (λ m. (m +ℤ n) *ℤ k ≡ m *ℤ k +ℤ n *ℤ k) base up down m
   where
     base : (pos zero +ℤ n) *ℤ k ≡ pos zero *ℤ k +ℤ n *ℤ k
     base = simp (+ℤ_idl, zero-*ℤ)
@@ -49,7 +49,7 @@ pub *ℤ-neg : (m k : ℤ) → m *ℤ neg_ℤ k ≡ neg_ℤ (m *ℤ k)
 
 -- products regroup
 pub *ℤ-assoc : (m n k : ℤ) → (m *ℤ n) *ℤ k ≡ m *ℤ (n *ℤ k)
-*ℤ-assoc m n k = ℤWalk (λ m. (m *ℤ n) *ℤ k ≡ m *ℤ (n *ℤ k)) base up down m
+*ℤ-assoc m n k = ℤ_walk (λ m. (m *ℤ n) *ℤ k ≡ m *ℤ (n *ℤ k)) base up down m
   where
     base : (pos zero *ℤ n) *ℤ k ≡ pos zero *ℤ (n *ℤ k)
     base = simp zero-*ℤ
