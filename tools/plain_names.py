@@ -30,9 +30,9 @@ def plain(name):
     """The name in today's spelling."""
     if name in APART:
         return APART[name]
-    if name[0] in "*+-" or not re.search(r"[a-z]-|-[a-zℤ0-9]|[a-z][A-Z]", name):
+    if name[0] in "*+-" or not re.search(r"[a-z]-|-[a-zℤ0-9]|[a-z0-9][A-Z]", name):
         return name
-    if name[0].isupper():
+    if name[0].isupper() and name[0] != "ℤ":
         parts = name.split("-")
         return "".join(p[0].upper() + p[1:] for p in parts if p) if "-" in name else name
     name = re.sub(r"(?<=[a-z0-9])([A-Z])", lambda m: "_" + m.group(1).lower(), name)
