@@ -1,5 +1,5 @@
 // The walk of a point through a program: a loop with a stack of frames.
-ghost use Rattle.std.specs.Prelude.{◌≡◌, ◌^◌, ◌<◌, ◌≤◌, true, ◌||◌, [], ◌∷◌, ◌++◌, length, get_or, vec_len, vec_capacity, slice_index_or};
+ghost use Rattle.std.specs.Prelude.{◌≡◌, ◌^◌, ◌<◌, ◌≤◌, true, ◌||◌, [], ◌∷◌, ◌++◌, length, vec_len, vec_capacity, slice_index_or};
 ghost use Rattle.model.specs.declared.node.Node.TheVariants.{Empty, Join};
 ghost use Rattle.model.specs.Syntax.{one, solid};
 ghost use Rattle.probe.specs.declared.spot.Spot.TheVariants.{At};
@@ -158,7 +158,7 @@ fn enter<F: Family>(
 // How many elements the list that begins at a node has.
 fn elements(measures: &[Measure], node: usize) -> u128
     requires { node < length measures.now }
-    ensures { result ≡ (get_or measures.now node nothing).elements }
+    ensures { result ≡ (slice_index_or measures.now node nothing).elements }
 {
     measures[node].elements
 }

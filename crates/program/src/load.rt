@@ -61,7 +61,7 @@ impl Part {
         measures[0].unrolled as usize
     }
 
-    /// Loads a text: the part is then its program. A text that is refused leaves the part as it was.
+    /// Loads a text: the part is then its program. A text that is refused leaves its layout as it was.
     pub fn load<F: Family>(&mut self, text: &[u8], family: &F) -> Result<(), Unloaded>
         ensures { Loaded (F.Family.meaning family.now) text.now self.old result self.new }
     {

@@ -1,5 +1,5 @@
 -- What terms and the elements of lists come to in the unrolling, by the places of their nodes. Assumes nothing.
-use Rattle.std.specs.Prelude.{◌≡◌, ℕ, ◌+◌, ◌-◌, ◌^◌, ◌<◌, min, true, List, ◌++◌, length, get_or, drop, replicate, vec_items, slice_index_or}
+use Rattle.std.specs.Prelude.{◌≡◌, ℕ, ◌+◌, ◌-◌, ◌^◌, ◌<◌, min, true, List, ◌++◌, length, drop, replicate, vec_items, slice_index_or}
 use Rattle.model.specs.declared.node.Node.{Node}
 use Rattle.model.specs.declared.node.Triple.{Triple}
 use Rattle.model.specs.Syntax.{Kind, solid, vector, Sort, one, many, Expr, Exprs, Solid, textual, textuals}
@@ -52,7 +52,7 @@ pub record Holds (nodes : List Node) (t : Term) (j : ℕ) (k : Kind) (x : Val So
   pub list : Expr (many k)
   pub begins : Begins nodes t.place list
   pub within : j < count list
-  pub is : get_or (run programs list t.index) j (idle programs k) ≡ x
+  pub is : slice_index_or (run programs list t.index) j (idle programs k) ≡ x
 
 -- r is the term j of those in a row from t on, if so many stand there
 abbrev pub Hops : List Node → Term → ℕ → Term → Type 0
