@@ -18,6 +18,7 @@ pub mod Written
 pub mod Starts
 pub mod Families
 pub mod Placements
+pub mod Axes
 pub mod Shapes
 pub mod Unrolling
 pub mod Counts

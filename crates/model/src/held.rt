@@ -5,7 +5,7 @@ ghost use Rattle.model.specs.Tables.{held};
 
 use super::limits::MOST_NODES;
 use super::node::Node;
-use super::table::Table;
+use super::table::{Draft, Table};
 use std::alloc::{AllocError, Global};
 
 impl Table {
@@ -14,7 +14,9 @@ impl Table {
         ensures { IfOk result (λ t. held t ≡ Empty) }
     {
         let mut nodes = Vec::with_capacity(heap, MOST_NODES)?;
-        let spare = Vec::with_capacity(heap, MOST_NODES)?;
+        let spare = Draft {
+            nodes: Vec::with_capacity(heap, MOST_NODES)?,
+        };
         nodes.push_reserved(Node::Empty);
         Ok(Table { nodes, spare })
     }

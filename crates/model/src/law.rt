@@ -1,21 +1,22 @@
 // The laws that a program has to keep, and what breaks one.
 use crate::node::Placement;
 
-/// What a law is about, in the order in which laws are tested.
+/// What a law is about, in the order in which laws are tested. A program that breaks it is refused
+/// by the law's number.
 #[derive(Clone, Copy, PartialEq, Eq)]
 pub enum Law {
     /// How many nodes and levels a program has.
-    Size,
+    Size = 3,
     /// Where a loop and its index may stand.
-    Loops,
+    Loops = 4,
     /// How large numbers may be.
-    Numbers,
+    Numbers = 5,
     /// Which primitives the family has.
-    Primitives,
+    Primitives = 6,
     /// The two lists of a Map2.
-    Pairs,
+    Pairs = 7,
     /// How long lists and the unrolling may be.
-    Lengths,
+    Lengths = 8,
 }
 
 /// The law that is broken, and the number of the first node that breaks it.

@@ -7,12 +7,16 @@ mod held;
 mod law;
 mod limits;
 mod node;
+mod numbered;
+mod numeral;
 mod point;
 mod refusal;
 mod report;
 mod same;
+mod spelling;
 mod table;
 mod unrolling;
+mod wide;
 mod word;
 
 pub use law::{Context, Fault, Law};
@@ -20,6 +24,7 @@ pub use limits::{MOST_BYTES, MOST_ELEMENTS, MOST_LEVELS, MOST_NODES, MOST_UNROLL
 pub use node::{Linear, Node, Operator, Placement, Triple};
 pub use point::{Point, Primitive};
 pub use refusal::{Layer, Refusal, Report, Span};
-pub use table::Table;
+pub use table::{Draft, Table};
 pub use unrolling::unrolling_keeps_values;
+pub use wide::{Numeral, Wide};
 pub use word::{Mark, Word};

@@ -3,13 +3,13 @@ ghost use Rattle.std.specs.Prelude.{◌≡◌};
 ghost use Rattle.model.specs.Reports.{report_of};
 
 use super::refusal::{Layer, Refusal, Report};
+use std::fmt;
 
-impl Refusal {
-    /// Its number, its layer and the part of the text at fault.
-    pub fn report(self) -> Report
-        ensures { result ≡ report_of self }
-    {
-        match self {
+impl From<Refusal> for Report {
+    ghost from_gives = { λ refusal report. report ≡ report_of refusal };
+
+    fn from(refusal: Refusal) -> Report {
+        match refusal {
             Refusal::NoToken(span) => Report {
                 number: 1,
                 layer: Layer::Token,
@@ -26,5 +26,15 @@ impl Refusal {
                 span,
             },
         }
+    }
+}
+
+impl fmt::Display for Layer {
+    fn fmt<W: fmt::Write>(&self, f: &mut fmt::Formatter<W>) -> fmt::Result {
+        f.write_str(match self {
+            Layer::Token => "token",
+            Layer::Grammar => "grammar",
+            Layer::Legality => "legality",
+        })
     }
 }
