@@ -1,5 +1,6 @@
 // What the arguments ask for.
 use std::env::Args;
+use std::fmt;
 
 pub const USAGE: &str =
     "usage: runzhivel COMMAND\n  show FILE   read a part file (- is standard input), and print its size, its depth and its text\n  help        print this";
@@ -18,6 +19,17 @@ pub enum Misuse {
     Unknown(String),
     NoFile,
     TooMany,
+}
+
+impl fmt::Display for Misuse {
+    fn fmt<W: fmt::Write>(&self, f: &mut fmt::Formatter<W>) -> fmt::Result {
+        match self {
+            Misuse::NoCommand => f.write_str("no command is given"),
+            Misuse::Unknown(word) => write!(f, "`{word}` is no command"),
+            Misuse::NoFile => f.write_str("show needs the name of a file, or - for standard input"),
+            Misuse::TooMany => f.write_str("show takes one file"),
+        }
+    }
 }
 
 fn show_command(mut args: Args) -> Result<Command, Misuse> {

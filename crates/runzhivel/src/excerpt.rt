@@ -22,34 +22,27 @@ pub struct Excerpt<'a> {
     ends_early: bool,
 }
 
-// The first byte shown of the line that `at` is in.
-fn shown_from(text: &[u8], at: usize) -> usize
-    requires { at ≤ length text.now }
-    ensures { result ≤ at }
+// How many bytes are shown of the line before the fault.
+fn shown_before(before: &[u8]) -> usize
+    ensures { result ≤ length before.now }
 {
-    let mut from = at;
-    for _ in 0..LEAD {
-        if from == 0 || text[from - 1] == b'\n' {
-            return from;
-        }
-        from -= 1;
-    }
-    from
+    before
+        .iter()
+        .rev()
+        .take(LEAD)
+        .take_while(|byte| **byte != b'\n')
+        .count()
 }
 
-// The byte after the last one shown.
-fn shown_to(text: &[u8], at: usize) -> usize
-    requires { at ≤ length text.now }
-    ensures { (at ≤ result) × (result ≤ length text.now) }
+// How many are shown from the fault on.
+fn shown_after(after: &[u8]) -> usize
+    ensures { result ≤ length after.now }
 {
-    let mut to = at;
-    for _ in 0..TRAIL {
-        if to == text.len() || text[to] == b'\n' {
-            return to;
-        }
-        to += 1;
-    }
-    to
+    after
+        .iter()
+        .take(TRAIL)
+        .take_while(|byte| **byte != b'\n')
+        .count()
 }
 
 impl<'a> Excerpt<'a> {
@@ -58,8 +51,8 @@ impl<'a> Excerpt<'a> {
         ensures { Shows text.now span result }
     {
         let at = span.at.min(text.len());
-        let from = shown_from(text, at);
-        let to = shown_to(text, at);
+        let from = at - shown_before(&text[..at]);
+        let to = at + shown_after(&text[at..]);
         Excerpt {
             before: &text[from..at],
             after: &text[at..to],

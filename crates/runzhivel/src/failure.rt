@@ -1,8 +1,8 @@
 // Why the program ends with status 1, and what it then says.
 use super::command::{Misuse, USAGE};
 use super::expected::expected_after;
-use super::message::{Message, layer_name, parted};
-use model::Refusal;
+use super::message::{Message, parted};
+use model::{Refusal, Report};
 use std::alloc::{AllocError, Global};
 use std::io;
 
@@ -35,18 +35,6 @@ impl From<Misuse> for Failure {
     }
 }
 
-fn explain_misuse(rt: &HostRuntime, misuse: &Misuse) -> io::Result<()> {
-    match misuse {
-        Misuse::NoCommand => eprintln!(rt; "runzhivel: no command is given")?,
-        Misuse::Unknown(word) => eprintln!(rt; "runzhivel: `{word}` is no command")?,
-        Misuse::NoFile => eprintln!(rt;
-            "runzhivel: show needs the name of a file, or - for standard input"
-        )?,
-        Misuse::TooMany => eprintln!(rt; "runzhivel: show takes one file")?,
-    }
-    rt.eprintln(USAGE)
-}
-
 fn title(name: &str) -> &str {
     if name == "-" { "standard input" } else { name }
 }
@@ -69,10 +57,12 @@ fn explain_refusal<'a>(
     text: &'a [u8],
     refusal: Refusal,
 ) -> io::Result<()> {
-    let report = refusal.report();
-    let number = report.number;
-    let layer = layer_name(report.layer);
-    let at = report.span.at;
+    let Report {
+        number,
+        layer,
+        span,
+    } = Report::from(refusal);
+    let at = span.at;
     println!(rt; "refused {number} {layer} {at}")?;
     let names = expected(rt.alloc(), text, refusal)?;
     let expected = names.as_slice();
@@ -88,7 +78,10 @@ fn explain_refusal<'a>(
 /// Says why the program failed.
 pub fn explain(rt: &HostRuntime, failure: &Failure) -> io::Result<()> {
     match failure {
-        Failure::Misuse(misuse) => explain_misuse(rt, misuse),
+        Failure::Misuse(misuse) => {
+            eprintln!(rt; "runzhivel: {misuse}")?;
+            rt.eprintln(USAGE)
+        }
         Failure::Unreadable(name, error) => {
             eprintln!(rt; "runzhivel: cannot read {name}: {error}")?;
             rt.eprintln(USAGE)

@@ -1,16 +1,8 @@
 // What a refusal says to a person.
 use super::excerpt::{Excerpt, shown};
 use super::place::place_after;
-use model::{Layer, Refusal, Span};
+use model::{Refusal, Report, Span};
 use std::fmt;
-
-pub fn layer_name(layer: Layer) -> &'static str {
-    match layer {
-        Layer::Token => "token",
-        Layer::Grammar => "grammar",
-        Layer::Legality => "legality",
-    }
-}
 
 /// The message for a refused text: the name of its file, and what could stand at the fault.
 #[derive(Drop)]
@@ -94,7 +86,7 @@ impl Message<'_> {
 impl fmt::Display for Message<'_> {
     fn fmt<W: fmt::Write>(&self, f: &mut fmt::Formatter<W>) -> fmt::Result {
         let name = self.name;
-        let span = self.refusal.report().span;
+        let span = Report::from(self.refusal).span;
         let (before, token) = parted(self.text, span);
         let place = place_after(before);
         let line = place.line;

@@ -1,6 +1,7 @@
 // The line and the column of a byte.
-ghost use Rattle.std.specs.Prelude.{◌≡◌};
-ghost use Rattle.runzhivel.specs.Places.{line_after, column_after};
+ghost use Rattle.std.specs.Prelude.{◌≡◌, ◌≤◌, not, length};
+ghost use Rattle.std.specs.List.{suffix_len};
+ghost use Rattle.runzhivel.specs.Places.{feeds, line_after, column_after};
 
 /// Both count from 1, and a column counts bytes.
 #[derive(Clone, Copy)]
@@ -9,20 +10,24 @@ pub struct Place {
     pub column: usize,
 }
 
+// How many bytes stand after the last line feed.
+fn since_feed(before: &[u8]) -> usize
+    ensures value { result ≡ suffix_len (λ b. not (feeds b)) before.now }
+    ensures within { result ≤ length before.now }
+{
+    before
+        .iter()
+        .rev()
+        .take_while(|byte| **byte != b'\n')
+        .count()
+}
+
 /// The place of the byte that follows these.
 pub fn place_after(before: &[u8]) -> Place
     ensures line { result.line ≡ line_after before.now }
     ensures column { result.column ≡ column_after before.now }
 {
-    let mut line = 1;
-    let mut column = 1;
-    for byte in before {
-        if *byte == b'\n' {
-            line += 1;
-            column = 1;
-        } else {
-            column += 1;
-        }
-    }
+    let line = 1 + before.iter().filter(|byte| **byte == b'\n').count();
+    let column = 1 + since_feed(before);
     Place { line, column }
 }
