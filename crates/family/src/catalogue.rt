@@ -4,7 +4,7 @@ ghost use Rattle.std.specs.List.{list_all};
 ghost use Rattle.family.specs.Catalogue.{catalogue, in_range, fits, is_coefficient, has_profile, no_sizes, listed, half_space, admits};
 ghost use Rattle.family.specs.CatalogueLaws.{catalogue_laws};
 
-use crate::exact::{is_zero, product, within};
+use crate::exact::{product, within};
 use crate::family::{Family, Reach};
 use crate::reachable::{Reachable, is_near};
 use model::{Point, Primitive, Triple};
@@ -60,7 +60,7 @@ fn has_no_sizes(primitive: &Primitive) -> bool
     ensures { result ≡ no_sizes primitive.now }
 {
     let Triple { x, y, z } = primitive.sizes;
-    is_zero(x) && is_zero(y) && is_zero(z)
+    x == 0 && y == 0 && z == 0
 }
 
 fn is_listed(rows: &[Row], primitive: &Primitive) -> bool

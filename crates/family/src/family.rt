@@ -15,9 +15,6 @@ pub enum Reach {
 pub trait Family {
     ghost meaning: { Self → Meaning };
 
-    // A member that is a proof, since a `law` is not taken where an impl has a lifetime.
-    ghost lawful: { (family : Self) → Laws (meaning family) };
-
     fn legal(&self, primitive: &Primitive) -> bool
         ensures { result ≡ (meaning self.now).legal primitive.now };
 
@@ -27,4 +24,6 @@ pub trait Family {
     /// The primitive that contains what `primitive` does when scaled by the factors, if the family has one.
     fn absorb(&self, primitive: &Primitive, factors: Triple) -> Option<Primitive>
         ensures { result ≡ (meaning self.now).absorbed primitive.now factors };
+
+    ghost lawful: { (family : Self) → Laws (meaning family) };
 }

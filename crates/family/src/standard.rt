@@ -3,7 +3,7 @@ ghost use Rattle.std.specs.Prelude.{◌≡◌, true, ◌&&◌, pos, ◌*ℤ◌, 
 ghost use Rattle.family.specs.Standard.{standard, is_size, is_box, is_cylinder, along, over_base, in_box, in_circle, in_cylinder, holds, when, joint, box_absorbed, cylinder_absorbed};
 ghost use Rattle.family.specs.StandardLaws.{standard_laws};
 
-use crate::exact::{is_zero, product, within};
+use crate::exact::{product, within};
 use crate::family::{Family, Reach};
 use crate::reachable::Reachable;
 use model::{Point, Primitive, Triple};
@@ -30,7 +30,7 @@ fn is_cylinder(primitive: &Primitive) -> bool
     ensures { result ≡ is_cylinder primitive.now }
 {
     let Triple { x, y, z } = primitive.sizes;
-    primitive.kind == 2 && is_size(x) && is_size(y) && is_zero(z)
+    primitive.kind == 2 && is_size(x) && is_size(y) && z == 0
 }
 
 fn is_along(value: i64, length: i64, w: i64) -> bool
