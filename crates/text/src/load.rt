@@ -21,11 +21,11 @@ pub fn read(text: &[u8], table: &mut Table) -> Result<(), Refusal>
             len: 0,
         }));
     }
-    if let Err(refusal) = read_program(text, &mut table.spare) {
-        table.spare.clear();
+    if let Err(refusal) = read_program(text, &mut table.spare.nodes) {
+        table.spare.nodes.clear();
         return Err(refusal);
     }
-    std::mem::swap(&mut table.nodes, &mut table.spare);
-    table.spare.clear();
+    std::mem::swap(&mut table.nodes, &mut table.spare.nodes);
+    table.spare.nodes.clear();
     Ok(())
 }
