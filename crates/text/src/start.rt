@@ -98,7 +98,7 @@ fn next_span(src: &mut Lexer) -> Option<Span>
     ensures { NextSpan src.old result src.new }
 {
     match src.next() {
-        Ok(Some(token)) => Some(token.span()),
+        Ok(Some(token)) => Some(token.span),
         _ => None,
     }
 }

@@ -10,4 +10,4 @@ pub returns : goal.returns
 returns c =
     let q : token_of c.args.token ≡ mark Left = search rules in
     let v = c.in_ok-vector.ensures.took in
-    record { read = node_read (S.vec c.in_ok-vector.vector) (cc) c.push_reserved.ensures.items (none_read refl) refl; same = search rules; ahead = search rules; longer = search rules; cap = search rules; goes = search rules }
+    record { read = node_read (S.vec c.in_ok-vector.vector) (cc) c.push_reserved.ensures.items (none_read refl) refl; same = search rules; ahead = search rules; longer = search rules; goes = search rules }
