@@ -17,17 +17,13 @@ abbrev pub after : {X : Type 0} → Result X Refusal → Outcome → Outcome
 after (Ok u) v = v
 after (Err f) v = refused f
 
--- the same text is read on
-abbrev pub Same : Lexer → Lexer → Type 0
-Same a b = b.text.now ≡ a.text.now
-
--- bytes were read
+-- the same text is read on, and bytes of it were read
 abbrev pub Ahead : {X : Type 0} → Lexer → Result X Refusal → Lexer → Type 0
-Ahead a r b = OnOk r (a.at < b.at)
+Ahead a r b = (b.text.now ≡ a.text.now) × OnOk r (a.at < b.at)
 
--- the reader has not gone back
+-- the same text is read on, and the reader has not gone back
 abbrev pub Onward : {X : Type 0} → Lexer → Result X Refusal → Lexer → Type 0
-Onward a r b = OnOk r (a.at ≤ b.at)
+Onward a r b = (b.text.now ≡ a.text.now) × OnOk r (a.at ≤ b.at)
 
 -- these tokens were taken
 abbrev pub Took : {X : Type 0} → (X → List Token) → Lexer → Result X Refusal → Lexer → Type 0

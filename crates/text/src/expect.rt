@@ -8,7 +8,7 @@ ghost use Rattle.model.specs.Feed.{said};
 ghost use Rattle.model.specs.Grammar.{Goal, run};
 ghost use Rattle.model.specs.Grammar as goal;
 ghost use Rattle.text.specs.Lexer.{ahead};
-ghost use Rattle.text.specs.Reading.{Ahead, Goes, Same, Takes, Took};
+ghost use Rattle.text.specs.Reading.{Ahead, Goes, Takes, Took};
 
 use super::form::placement_of;
 use super::token::{Lexer, Token, TokenKind};
@@ -17,7 +17,6 @@ use model::{Linear, Mark, Numeral, Placement, Refusal, Span, Triple, Word};
 impl Lexer<'_> {
     // The next token; a text that ends here is refused.
     pub(crate) fn take(&mut self) -> Result<Token, Refusal>
-        ensures same { Same self.old self.new }
         ensures ahead { Ahead self.old result self.new }
         ensures takes { Takes self.old result self.new }
     {
@@ -29,7 +28,6 @@ impl Lexer<'_> {
     }
 
     pub(crate) fn mark(&mut self, wanted: Mark) -> Result<(), Refusal>
-        ensures same { Same self.old self.new }
         ensures ahead { Ahead self.old result self.new }
         ensures took { Took (λ _. tokens.mark wanted ∷ []) self.old result self.new }
         ensures goes { Goes (λ gs. goal.mark wanted ∷ gs) self.old result self.new }
@@ -43,7 +41,6 @@ impl Lexer<'_> {
 
     // A number without slope: a kind or a count.
     pub(crate) fn plain(&mut self) -> Result<i64, Refusal>
-        ensures same { Same self.old self.new }
         ensures ahead { Ahead self.old result self.new }
         ensures took { Took (λ k. tokens.plain k ∷ []) self.old result self.new }
         ensures goes { Goes (λ gs. goal.plain ∷ gs) self.old result self.new }
@@ -57,7 +54,6 @@ impl Lexer<'_> {
 
     // A number in a bracket.
     pub(crate) fn entry(&mut self) -> Result<Numeral, Refusal>
-        ensures same { Same self.old self.new }
         ensures ahead { Ahead self.old result self.new }
         ensures took { Took (λ v. tokens.number v.constant v.slope ∷ []) self.old result self.new }
         ensures goes { Goes (λ gs. goal.entry ∷ gs) self.old result self.new }
@@ -71,7 +67,6 @@ impl Lexer<'_> {
 
     // The word `Union` after `Fold`.
     pub(crate) fn union_word(&mut self) -> Result<(), Refusal>
-        ensures same { Same self.old self.new }
         ensures ahead { Ahead self.old result self.new }
         ensures took { Took (λ _. tokens.word word.Union ∷ []) self.old result self.new }
         ensures goes { Goes (λ gs. goal.union ∷ gs) self.old result self.new }
@@ -85,7 +80,6 @@ impl Lexer<'_> {
 
     // The word `i` after `(Tabulate (`.
     pub(crate) fn index_word(&mut self) -> Result<(), Refusal>
-        ensures same { Same self.old self.new }
         ensures ahead { Ahead self.old result self.new }
         ensures took { Took (λ _. tokens.word word.Index ∷ []) self.old result self.new }
         ensures goes { Goes (λ gs. goal.index ∷ gs) self.old result self.new }
@@ -99,7 +93,6 @@ impl Lexer<'_> {
 
     // The placement of a Map2.
     pub(crate) fn placement(&mut self) -> Result<Placement, Refusal>
-        ensures same { Same self.old self.new }
         ensures ahead { Ahead self.old result self.new }
         ensures took { Took (λ t. tokens.word (placement_word t) ∷ []) self.old result self.new }
         ensures goes { Goes (λ gs. goal.placement ∷ gs) self.old result self.new }
@@ -113,7 +106,6 @@ impl Lexer<'_> {
 
     // The loop of a Tabulate, `(i n)`: its count.
     pub(crate) fn loop_count(&mut self) -> Result<i64, Refusal>
-        ensures same { Same self.old self.new }
         ensures ahead { Ahead self.old result self.new }
         ensures took { Took (λ k. tokens.mark mark.Open ∷ tokens.word word.Index ∷ tokens.plain k ∷ tokens.mark mark.Close ∷ []) self.old result self.new }
         ensures goes { Goes (λ gs. goal.mark mark.Open ∷ goal.index ∷ goal.plain ∷ goal.mark mark.Close ∷ gs) self.old result self.new }
@@ -127,7 +119,6 @@ impl Lexer<'_> {
 
     // The rest of a vector, after its bracket.
     pub(crate) fn entries(&mut self) -> Result<Linear, Refusal>
-        ensures same { Same self.old self.new }
         ensures ahead { Ahead self.old result self.new }
         ensures took { IfOk result (λ v. tokens.mark mark.Left ∷ said (ahead self.old) ≡ bracket v ++ said (ahead self.new)) }
         ensures goes { Goes (λ gs. goal.entries gs) self.old result self.new }
@@ -154,7 +145,6 @@ impl Lexer<'_> {
 
     // A vector.
     pub(crate) fn bracket(&mut self) -> Result<Linear, Refusal>
-        ensures same { Same self.old self.new }
         ensures ahead { Ahead self.old result self.new }
         ensures took { Took (λ v. bracket v) self.old result self.new }
         ensures goes { Goes (λ gs. goal.mark mark.Left ∷ goal.entries gs) self.old result self.new }

@@ -9,7 +9,7 @@ ghost use Rattle.model.specs.Syntax.{solid, vector, one, many};
 ghost use Rattle.model.specs.Tokens as tokens;
 ghost use Rattle.text.specs.Forms.{kind_of};
 ghost use Rattle.text.specs.Lexer.{ahead, token_of};
-ghost use Rattle.text.specs.Reading.{after, closes, judge, Ahead, HasRead, Leads, Onward, Read, Same};
+ghost use Rattle.text.specs.Reading.{after, closes, judge, Ahead, HasRead, Leads, Onward, Read};
 
 use super::form::{Element, ListForm, SolidForm, list_form, solid_form};
 use super::token::{Lexer, Token, TokenKind};
@@ -38,10 +38,8 @@ fn read_element(
     levels: u16,
     out: &mut Draft,
 ) -> Result<(), Refusal>
-    ensures same { Same src.old src.new }
     ensures ahead { Ahead src.old result src.new }
     ensures read { HasRead (one (kind_of element) ∷ []) (said (ahead src.old)) result src.new out.old.nodes.items out.new.nodes.items }
-    ensures longer { vec_len out.old.nodes ≤ vec_len out.new.nodes }
     ensures goes { Leads (λ gs. run (ahead src.old) (goal.element (kind_of element) levels ∷ gs) (vec_len out.old.nodes)) result src.new (vec_len out.new.nodes) }
 {
     let token = src.take()?;
@@ -58,10 +56,8 @@ fn element_from(
     levels: u16,
     out: &mut Draft,
 ) -> Result<(), Refusal>
-    ensures same { Same src.old src.new }
     ensures ahead { Onward src.old result src.new }
     ensures read { HasRead (one (kind_of element) ∷ []) (token_of token ∷ said (ahead src.old)) result src.new out.old.nodes.items out.new.nodes.items }
-    ensures longer { vec_len out.old.nodes ≤ vec_len out.new.nodes }
     ensures goes { Leads (λ gs. judge token src.old (goal.element (kind_of element) levels) gs (vec_len out.old.nodes)) result src.new (vec_len out.new.nodes) }
 {
     match element {
@@ -82,10 +78,8 @@ fn vector_from(
     levels: u16,
     out: &mut Draft,
 ) -> Result<(), Refusal>
-    ensures same { Same src.old src.new }
     ensures ahead { Onward src.old result src.new }
     ensures read { HasRead (one vector ∷ []) (token_of token ∷ said (ahead src.old)) result src.new out.old.nodes.items out.new.nodes.items }
-    ensures longer { vec_len out.old.nodes ≤ vec_len out.new.nodes }
     ensures goes { Leads (λ gs. judge token src.old (goal.element vector levels) gs (vec_len out.old.nodes)) result src.new (vec_len out.new.nodes) }
 {
     let TokenKind::Mark(Mark::Left) = token.kind else {
@@ -104,10 +98,8 @@ fn solid_from(
     levels: u16,
     out: &mut Draft,
 ) -> Result<(), Refusal>
-    ensures same { Same src.old src.new }
     ensures ahead { Onward src.old result src.new }
     ensures read { HasRead (one solid ∷ []) (token_of token ∷ said (ahead src.old)) result src.new out.old.nodes.items out.new.nodes.items }
-    ensures longer { vec_len out.old.nodes ≤ vec_len out.new.nodes }
     ensures goes { Leads (λ gs. judge token src.old (goal.element solid levels) gs (vec_len out.old.nodes)) result src.new (vec_len out.new.nodes) }
 {
     if let TokenKind::Word(Word::Empty) = token.kind {
@@ -127,10 +119,8 @@ fn solid_from(
 #[cycle(reading)]
 fn read_inside(src: &mut Lexer<'_>, levels: u16, out: &mut Draft) -> Result<(), Refusal>
     requires len { vec_len out.old.nodes < 640 }
-    ensures same { Same src.old src.new }
     ensures ahead { Ahead src.old result src.new }
     ensures read { HasRead (one solid ∷ []) (tokens.mark mark.Open ∷ said (ahead src.old)) result src.new out.old.nodes.items out.new.nodes.items }
-    ensures longer { vec_len out.old.nodes ≤ vec_len out.new.nodes }
     ensures goes { Leads (λ gs. run (ahead src.old) (goal.in_solid levels ∷ gs) (vec_len out.old.nodes + 1)) result src.new (vec_len out.new.nodes) }
 {
     let token = src.take()?;
@@ -177,10 +167,8 @@ fn read_list(
     levels: u16,
     out: &mut Draft,
 ) -> Result<(), Refusal>
-    ensures same { Same src.old src.new }
     ensures ahead { Ahead src.old result src.new }
     ensures read { HasRead (many (kind_of element) ∷ []) (said (ahead src.old)) result src.new out.old.nodes.items out.new.nodes.items }
-    ensures longer { vec_len out.old.nodes ≤ vec_len out.new.nodes }
     ensures goes { Leads (λ gs. run (ahead src.old) (goal.list (kind_of element) levels ∷ gs) (vec_len out.old.nodes)) result src.new (vec_len out.new.nodes) }
 {
     let token = src.take()?;
@@ -201,10 +189,8 @@ fn read_inside_list(
     out: &mut Draft,
 ) -> Result<(), Refusal>
     requires len { vec_len out.old.nodes < 640 }
-    ensures same { Same src.old src.new }
     ensures ahead { Ahead src.old result src.new }
     ensures read { HasRead (many (kind_of element) ∷ []) (tokens.mark mark.Open ∷ said (ahead src.old)) result src.new out.old.nodes.items out.new.nodes.items }
-    ensures longer { vec_len out.old.nodes ≤ vec_len out.new.nodes }
     ensures goes { Leads (λ gs. run (ahead src.old) (goal.in_list (kind_of element) levels ∷ gs) (vec_len out.old.nodes + 1)) result src.new (vec_len out.new.nodes) }
 {
     let token = src.take()?;
@@ -260,10 +246,9 @@ fn read_elements(
     levels: u16,
     out: &mut Draft,
 ) -> Result<usize, Refusal>
-    ensures same { Same src.old src.new }
-    ensures ahead { IfOk result (λ n. src.old.at + n < src.new.at) }
+    ensures ahead { Ahead src.old result src.new }
+    ensures count { IfOk result (λ n. src.old.at + n < src.new.at) }
     ensures read { IfOk result (λ n. Read (replicate n (one (kind_of element))) (said (ahead src.old)) (tokens.mark mark.Close ∷ said (ahead src.new)) out.old.nodes.items out.new.nodes.items) }
-    ensures longer { vec_len out.old.nodes ≤ vec_len out.new.nodes }
     ensures goes { Leads (λ gs. run (ahead src.old) (goal.elements (kind_of element) levels ∷ gs) (vec_len out.old.nodes)) result src.new (vec_len out.new.nodes) }
 {
     let token = src.take()?;
