@@ -43,8 +43,7 @@ fn read_element(
     ensures goes { Leads (λ gs. run (ahead src.old) (goal.element (kind_of element) levels ∷ gs) (vec_len out.old.nodes)) result src.new (vec_len out.new.nodes) }
 {
     let token = src.take()?;
-    element_from(token, src, element, levels, out)?;
-    Ok(())
+    element_from(token, src, element, levels, out)
 }
 
 // An element whose first token is taken.
@@ -61,14 +60,8 @@ fn element_from(
     ensures goes { Leads (λ gs. judge token src.old (goal.element (kind_of element) levels) gs (vec_len out.old.nodes)) result src.new (vec_len out.new.nodes) }
 {
     match element {
-        Element::Solid => {
-            solid_from(token, src, levels, out)?;
-            Ok(())
-        }
-        Element::Vector => {
-            vector_from(token, src, levels, out)?;
-            Ok(())
-        }
+        Element::Solid => solid_from(token, src, levels, out),
+        Element::Vector => vector_from(token, src, levels, out),
     }
 }
 
@@ -111,8 +104,7 @@ fn solid_from(
         return Err(Refusal::NoSolid(token.span));
     };
     room_for(levels, out.nodes.len(), token.span)?;
-    read_inside(src, levels - 1, out)?;
-    Ok(())
+    read_inside(src, levels - 1, out)
 }
 
 // The rest of a solid after its bracket, whose parts have `levels` left.
@@ -176,8 +168,7 @@ fn read_list(
         return Err(Refusal::NoSolid(token.span));
     };
     room_for(levels, out.nodes.len(), token.span)?;
-    read_inside_list(src, element, levels - 1, out)?;
-    Ok(())
+    read_inside_list(src, element, levels - 1, out)
 }
 
 // The rest of a list after its bracket, whose parts have `levels` left.

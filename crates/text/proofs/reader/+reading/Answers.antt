@@ -62,7 +62,6 @@ read_elements-returns-then-is_close-clause-read t c =
 
 pub read_elements-returns-clause-read : goal.read_elements-returns-clause-read
 read_elements-returns-clause-read t c =
-    let n : closes (token_of c.in_ok-token.token) ≡ false = search rules in
     more_read c.in_ok-count.count (also_read c.in_ok-token.ensures.takes.0 c.in_ok-element_from.ensures.read) c.in_ok-count.ensures.read
 
 pub read_elements-returns-clause-goes : goal.read_elements-returns-clause-goes
@@ -90,4 +89,4 @@ solid_from-returns-in-Word-Empty-clause-read t c =
 pub solid_from-returns-clause-read : goal.solid_from-returns-clause-read
 solid_from-returns-clause-read t c =
     let q : token_of c.args.token ≡ mark Open = search rules in
-    also_read (cc) c.in_ok-read_inside.ensures.read
+    rw q c.read_inside.ensures.read
