@@ -97,10 +97,7 @@ fn walk_parts(nodes: &[Node], place: usize, count: usize, target: usize) -> Walk
 fn next_span(src: &mut Lexer) -> Option<Span>
     ensures { NextSpan src.old result src.new }
 {
-    match src.next() {
-        Ok(Some(token)) => Some(token.span),
-        _ => None,
-    }
+    src.next().ok().flatten().map(|token| token.span)
 }
 
 // The place of the token before which so many others stand.
