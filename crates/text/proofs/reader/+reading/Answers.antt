@@ -6,9 +6,9 @@ use Rattle.model.specs.Syntax as S
 use Rattle.model.specs.Tokens.{word, mark}
 use Rattle.model.specs.Feed.{said}
 use Rattle.text.specs.Reading.{closes}
-use Rattle.text.specs.Forms.{kind_of, solid_word}
+use Rattle.text.specs.Forms.{kind_of, solid_word, Gives}
 use Rattle.text.specs.Lexer.{ahead, token_of}
-use Rattle.text.proofs.Ways.{none_read, also_read, one_read, node_read, more_read, listed_read, map2_solid, one_more, closing_mark}
+use Rattle.text.proofs.Ways.{none_read, also_read, one_read, node_read, more_read, listed_read, one_more, closing_mark}
 use Rattle.text.proofs.reader.+reading.Goals as goal
 
 pub read_inside-returns-in_ok-mark-in-Primitive-clause-read : goal.read_inside-returns-in_ok-mark-in-Primitive-clause-read
@@ -78,7 +78,8 @@ pub read_inside_list-returns-in_ok-mark-in-Map2-clause-read : goal.read_inside_l
 read_inside_list-returns-in_ok-mark-in-Map2-clause-read t c =
     let q : mark Open ∷ said (ahead c.args.src.now) ≡ mark Open ∷ word (w.Map2) ∷ said (ahead c.take.new.self) = search rules in
     let p = c.in_ok-placement-in-Map2.ensures.took in
-    let k = map2_solid c.args.element c.in_ok-form.form (search rules) c.in-Map2.is in
+    let gives : Gives c.args.element c.in_ok-form.form = search rules in
+    let k = ap kind_of (gives c.in-Map2.is) in
     rw k (node_read (S.map2 c.in_ok-placement-in-Map2.placement) (cc) c.push_reserved-in-Map2.ensures.items (one_read c.in_ok-read_list-in-Map2.ensures.read c.in_ok-read_list-in-Map2-2.ensures.read) c.in_ok-mark-in-Map2.ensures.took)
 
 pub solid_from-returns-in-Word-Empty-clause-read : goal.solid_from-returns-in-Word-Empty-clause-read
