@@ -1,3 +1,4 @@
 pub mod Ways
 pub mod Loads
 pub mod Walks
+pub mod Numbers

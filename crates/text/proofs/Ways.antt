@@ -63,15 +63,6 @@ listed_read {k} {t2 = t2} {old = old} n i long a m x s = record {
   made = s ∙ ap (λ l. set l i (v.List n)) (x.made ∙ ap (λ l. l ++ flattens x.which) m ∙ append_assoc old (v.List 0 ∷ []) (flattens x.which)) ∙ set_at old (v.List 0) (flattens x.which) (v.List n) i long ∙ simp append-nil;
 }
 
--- Map2 stands where solids are listed
-pub map2_solid : (x : Element) (f : ListForm) → Gives x f → f ≡ l.Map2 → kind_of x ≡ solid
-map2_solid e.Solid f g q = refl
-map2_solid e.Vector l.Elements g q = clash (cc)
-map2_solid e.Vector l.Repeat g q = clash (cc)
-map2_solid e.Vector l.Tabulate g q = clash (cc)
-map2_solid e.Vector l.Concat g q = clash (cc)
-map2_solid e.Vector l.Map2 g q = absurd g
-
 -- a token that does not close the list begins its next element
 pub one_more : (k : Kind) (d : ℕ) (gs : List Goal) (t : Token) → closes t ≡ false → move (elements k d) gs t ≡ move (element k d) (elements k d ∷ gs) t
 one_more k d gs (word x) q = refl

@@ -1,4 +1,5 @@
 -- The words of the forms. Assumes nothing.
+use Rattle.std.specs.Prelude.{◌≡◌}
 use Rattle.model.specs.declared.word.Word.{Word}
 use Rattle.model.specs.declared.word.Word.TheVariants as w
 use Rattle.model.specs.Syntax.{Kind, solid, vector}
@@ -30,9 +31,4 @@ list_word l.Map2 = w.Map2
 
 -- Map2 gives solids only
 abbrev pub Gives : E.Element → ListForm → Type 0
-Gives Solid f = Unit {0}
-Gives Vector l.Elements = Unit {0}
-Gives Vector l.Repeat = Unit {0}
-Gives Vector l.Tabulate = Unit {0}
-Gives Vector l.Concat = Unit {0}
-Gives Vector l.Map2 = ⊥
+Gives x f = f ≡ l.Map2 → x ≡ Solid

@@ -1,4 +1,3 @@
-pub mod Classes
 pub mod Lexer
 pub mod Forms
 pub mod Reading

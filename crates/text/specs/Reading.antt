@@ -1,5 +1,5 @@
 -- What a part of the reading has read, and what it leaves to be judged. Assumes nothing.
-use Rattle.std.specs.Prelude.{◌≡◌, ℕ, ◌<◌, ◌≤◌, Bool, true, false, List, ◌∷◌, ◌++◌, length, IfOk, Ok, Err, Result, OnOk}
+use Rattle.std.specs.Prelude.{◌≡◌, ℕ, ◌<◌, ◌≤◌, Bool, true, false, List, ◌∷◌, ◌++◌, IfOk, Ok, Err, Result, OnOk}
 use Rattle.model.specs.declared.word.Mark.TheVariants.{Open, Close, Left, Right, Comma}
 use Rattle.model.specs.declared.node.Node.{Node}
 use Rattle.model.specs.declared.refusal.Refusal.{Refusal}
@@ -10,24 +10,20 @@ use Rattle.model.specs.Grammar.{Goal, move, moved, run, Outcome, refused}
 use Rattle.model.specs.Feed.{said}
 use Rattle.text.specs.declared.token.Token as code
 use Rattle.text.specs.declared.token.Lexer.{Lexer}
-use Rattle.text.specs.Lexer.{ahead, token_of, span_of}
+use Rattle.text.specs.Lexer.{ahead, token_of}
 
 -- a part of the reading was done, or stopped at its refusal
 abbrev pub after : {X : Type 0} → Result X Refusal → Outcome → Outcome
 after (Ok u) v = v
 after (Err f) v = refused f
 
--- the same text is read on
-abbrev pub Same : Lexer → Lexer → Type 0
-Same a b = b.text.now ≡ a.text.now
-
--- bytes were read, and none past the text's end
+-- the same text is read on, and bytes of it were read
 abbrev pub Ahead : {X : Type 0} → Lexer → Result X Refusal → Lexer → Type 0
-Ahead a r b = OnOk r ((a.at < b.at) × (b.at ≤ length b.text.now))
+Ahead a r b = (b.text.now ≡ a.text.now) × OnOk r (a.at < b.at)
 
--- the reader has not gone back, nor past the text's end
+-- the same text is read on, and the reader has not gone back
 abbrev pub Onward : {X : Type 0} → Lexer → Result X Refusal → Lexer → Type 0
-Onward a r b = OnOk r ((a.at ≤ b.at) × (b.at ≤ length b.text.now))
+Onward a r b = (b.text.now ≡ a.text.now) × OnOk r (a.at ≤ b.at)
 
 -- these tokens were taken
 abbrev pub Took : {X : Type 0} → (X → List Token) → Lexer → Result X Refusal → Lexer → Type 0
@@ -39,7 +35,7 @@ Goes goals a r b = (gs : List Goal) (n : ℕ) → run (ahead a) (goals gs) n ≡
 
 -- the outcome where the token t is read to the first goal
 abbrev pub judge : code.Token → Lexer → Goal → List Goal → ℕ → Outcome
-judge t l g gs n = moved (move g gs (token_of t)) (run (ahead l)) n (span_of t)
+judge t l g gs n = moved (move g gs (token_of t)) (run (ahead l)) n t.span
 
 -- the closing bracket of a list
 abbrev pub closes : Token → Bool

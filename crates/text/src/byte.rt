@@ -1,28 +1,19 @@
-// Runs of bytes.
-ghost use Rattle.std.specs.Prelude.{◌≡◌, ◌+◌, ◌≤◌, length, drop};
+// Which bytes make runs, and how long the runs at the front of a text are.
+ghost use Rattle.std.specs.Prelude.{◌≡◌, ◌≤◌, length};
+ghost use Rattle.std.specs.Char.{is_ascii_digit};
 ghost use Rattle.std.specs.List.{prefix_len};
-ghost use Rattle.std.specs.Str.{bytes_eq};
 ghost use Rattle.model.specs.Bytes.{is_sep, in_word, in_number, starts_number};
-ghost use Rattle.text.specs.Classes.{in_class};
-
-#[derive(Clone, Copy)]
-pub(crate) enum Class {
-    Separator,
-    InWord,
-    InNumber,
-    Digit,
-}
 
 fn is_separator(b: u8) -> bool
     ensures { result ≡ is_sep b }
 {
-    b == b' ' || b == b'\t' || b == b'\n' || b == b'\r'
+    matches!(b, b' ' | b'\t' | b'\n' | b'\r')
 }
 
 fn in_word(b: u8) -> bool
     ensures { result ≡ in_word b }
 {
-    b.is_ascii_alphabetic() || b.is_ascii_digit()
+    b.is_ascii_alphanumeric()
 }
 
 pub(crate) fn starts_number(b: u8) -> bool
@@ -34,34 +25,37 @@ pub(crate) fn starts_number(b: u8) -> bool
 fn in_number(b: u8) -> bool
     ensures { result ≡ in_number b }
 {
-    b.is_ascii_digit() || b == b'+' || b == b'-' || b == b'i'
+    b.is_ascii_digit() || matches!(b, b'+' | b'-' | b'i')
 }
 
-fn in_class(class: Class, b: u8) -> bool
-    ensures { result ≡ in_class class b }
+/// How many bytes at the front are separators.
+pub(crate) fn separators_len(text: &[u8]) -> usize
+    ensures len { result ≡ prefix_len is_sep text.now }
+    ensures within { result ≤ length text.now }
 {
-    match class {
-        Class::Separator => is_separator(b),
-        Class::InWord => in_word(b),
-        Class::InNumber => in_number(b),
-        Class::Digit => b.is_ascii_digit(),
-    }
+    text.iter().take_while(|b| is_separator(**b)).count()
 }
 
-// The byte after the run of this class that stands from `at` on.
-pub(crate) fn run_end(text: &[u8], at: usize, class: Class) -> usize
-    ensures value { result ≡ at + prefix_len (in_class class) (drop at text.now) }
-    ensures within { at ≤ length text.now → result ≤ length text.now }
+/// How many bytes at the front a word goes on with.
+pub(crate) fn word_len(text: &[u8]) -> usize
+    ensures len { result ≡ prefix_len in_word text.now }
+    ensures within { result ≤ length text.now }
 {
-    let mut end = at;
-    while end < text.len() && in_class(class, text[end]) {
-        end += 1;
-    }
-    end
+    text.iter().take_while(|b| in_word(**b)).count()
 }
 
-pub(crate) fn same(a: &[u8], b: &[u8]) -> bool
-    ensures { result ≡ bytes_eq a.now b.now }
+/// How many bytes at the front a number goes on with.
+pub(crate) fn number_len(text: &[u8]) -> usize
+    ensures len { result ≡ prefix_len in_number text.now }
+    ensures within { result ≤ length text.now }
 {
-    a == b
+    text.iter().take_while(|b| in_number(**b)).count()
+}
+
+/// How many bytes at the front are digits.
+pub(crate) fn digits_len(text: &[u8]) -> usize
+    ensures len { result ≡ prefix_len is_ascii_digit text.now }
+    ensures within { result ≤ length text.now }
+{
+    text.iter().take_while(|b| b.is_ascii_digit()).count()
 }

@@ -7,7 +7,7 @@ ghost use Rattle.text.specs.Forms.{solid_word, list_word, kind_of, Gives};
 use model::{Operator, Placement, Word};
 
 /// What a list holds.
-#[derive(Clone, Copy)]
+#[derive(Clone, Copy, PartialEq, Eq)]
 pub(crate) enum Element {
     Solid,
     Vector,
@@ -30,6 +30,7 @@ pub(crate) enum ListForm {
     Map2,
 }
 
+// An Option says all that a TryFrom could, whose error would have nothing to name.
 pub(crate) fn placement_of(word: Word) -> Option<Placement>
     ensures { MatchOption result ((gs : List Goal) → at_placement word gs ≡ stuck) (λ t. word ≡ placement_word t) }
 {
@@ -65,10 +66,7 @@ pub(crate) fn list_form(element: Element, word: Word) -> Option<ListForm>
         Word::Repeat => Some(ListForm::Repeat),
         Word::Tabulate => Some(ListForm::Tabulate),
         Word::Concat => Some(ListForm::Concat),
-        Word::Map2 => match element {
-            Element::Solid => Some(ListForm::Map2),
-            Element::Vector => None,
-        },
+        Word::Map2 if element == Element::Solid => Some(ListForm::Map2),
         _ => None,
     }
 }

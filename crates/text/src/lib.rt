@@ -4,6 +4,7 @@
 mod byte;
 mod expect;
 mod form;
+mod lex;
 mod load;
 mod number;
 mod reader;

@@ -21,7 +21,7 @@ pub fn read(text: &[u8], table: &mut Table) -> Result<(), Refusal>
             len: 0,
         }));
     }
-    if let Err(refusal) = read_program(text, &mut table.spare.nodes) {
+    if let Err(refusal) = read_program(text, &mut table.spare) {
         table.spare.nodes.clear();
         return Err(refusal);
     }

@@ -1,54 +1,56 @@
 // Numbers: what a run of bytes says.
 ghost use Rattle.std.specs.Prelude.{◌≡◌, ◌≤◌, pos, IfSome};
 ghost use Rattle.std.specs.Option.{option_map};
-ghost use Rattle.model.specs.Bytes.{natural_of, minus, amount_of, change_of, slope_of, plain_of, number_of};
+ghost use Rattle.std.specs.Str.{all_ascii_digits};
+ghost use Rattle.model.specs.Bytes.{natural, natural_of, minus, amount_of, change_of, slope_of, plain_of, number_of};
+ghost use Rattle.text.specs.Lexer.{pair};
 
-use super::byte::{Class, run_end, same};
+use super::byte::digits_len;
+use model::Numeral;
 
-// The value of one to seven digits, the first not 0.
+fn all_digits(run: &[u8]) -> bool
+    ensures { result ≡ all_ascii_digits run.now }
+{
+    run.iter().all(u8::is_ascii_digit)
+}
+
+// One to seven digits, the first not 0.
+fn is_natural(run: &[u8]) -> bool
+    ensures { result ≡ natural run.now }
+{
+    !run.is_empty() && run.len() <= 7 && run[0] != b'0' && all_digits(run)
+}
+
+// Their value.
 fn natural_of(run: &[u8]) -> Option<u32>
     ensures value { result ≡ natural_of run.now }
     ensures small { IfSome result (λ n. n ≤ 9999999) }
 {
-    if run.is_empty() || run.len() > 7 || run[0] == b'0' {
+    if !is_natural(run) {
         return None;
     }
-    let mut value = 0;
-    for b in run {
-        if !b.is_ascii_digit() {
-            return None;
-        }
-        value = 10 * value + u32::from(*b - b'0');
-    }
-    Some(value)
+    std::str::from_utf8(run).ok()?.parse().ok()
 }
 
-fn positive(n: Option<u32>) -> Option<i64>
-    ensures { result ≡ option_map pos n }
+fn positive(digits: &[u8]) -> Option<i64>
+    ensures { result ≡ option_map pos (natural_of digits.now) }
 {
-    match n {
-        Some(n) => Some(i64::from(n)),
-        None => None,
-    }
+    natural_of(digits).map(i64::from)
 }
 
-fn negative(n: Option<u32>) -> Option<i64>
-    ensures { result ≡ option_map minus n }
+fn negative(digits: &[u8]) -> Option<i64>
+    ensures { result ≡ option_map minus (natural_of digits.now) }
 {
-    match n {
-        Some(n) => Some(-i64::from(n)),
-        None => None,
-    }
+    natural_of(digits).map(|n| -i64::from(n))
 }
 
 // Such digits, or a minus and such digits.
 fn amount_of(run: &[u8]) -> Option<i64>
     ensures { result ≡ amount_of run.now }
 {
-    if 0 < run.len() && run[0] == b'-' {
-        negative(natural_of(&run[1..]))
-    } else {
-        positive(natural_of(run))
+    match run.strip_prefix(b"-") {
+        Some(digits) => negative(digits),
+        None => positive(run),
     }
 }
 
@@ -56,36 +58,29 @@ fn amount_of(run: &[u8]) -> Option<i64>
 fn change_of(run: &[u8]) -> Option<i64>
     ensures { result ≡ change_of run.now }
 {
-    if run.len() == 0 {
-        return None;
-    }
-    match run[0] {
-        b'+' => positive(natural_of(&run[1..])),
-        b'-' => negative(natural_of(&run[1..])),
-        _ => None,
+    match run.strip_prefix(b"+") {
+        Some(digits) => positive(digits),
+        None => negative(run.strip_prefix(b"-")?),
     }
 }
 
 // A number without its last `i`: a slope, or a constant and a change by the slope.
-fn slope_of(run: &[u8]) -> Option<(i64, i64)>
-    ensures { result ≡ slope_of run.now }
+fn slope_of(run: &[u8]) -> Option<Numeral>
+    ensures { option_map pair result ≡ slope_of run.now }
 {
     if let Some(slope) = amount_of(run) {
-        return Some((0, slope));
+        return Some(Numeral { constant: 0, slope });
     }
-    let cut = run_end(run, 1, Class::Digit);
-    if cut >= run.len() {
-        return None;
-    }
-    let constant = amount_of(&run[0..cut])?;
+    let cut = 1 + digits_len(run.get(1..)?);
+    let constant = amount_of(&run[..cut])?;
     let slope = change_of(&run[cut..])?;
-    Some((constant, slope))
+    Some(Numeral { constant, slope })
 }
 
 fn plain_of(run: &[u8]) -> Option<i64>
     ensures { result ≡ plain_of run.now }
 {
-    if same(run, b"0") {
+    if run == b"0".as_slice() {
         Some(0)
     } else {
         amount_of(run)
@@ -93,13 +88,14 @@ fn plain_of(run: &[u8]) -> Option<i64>
 }
 
 // The constant and the slope that a run spells.
-pub(crate) fn number_of(run: &[u8]) -> Option<(i64, i64)>
-    ensures { result ≡ number_of run.now }
+pub(crate) fn number_of(run: &[u8]) -> Option<Numeral>
+    ensures { option_map pair result ≡ number_of run.now }
 {
-    let n = run.len();
-    if 0 < n && run[n - 1] == b'i' {
-        return slope_of(&run[0..n - 1]);
+    match run.strip_suffix(b"i") {
+        Some(slope) => slope_of(slope),
+        None => Some(Numeral {
+            constant: plain_of(run)?,
+            slope: 0,
+        }),
     }
-    let constant = plain_of(run)?;
-    Some((constant, 0))
 }

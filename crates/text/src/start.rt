@@ -1,5 +1,5 @@
 // Where in its text a node of a program begins.
-ghost use Rattle.std.specs.Prelude.{◌≡◌, ◌+◌, ◌*◌, ◌<◌, ◌≤◌, length, if◌then◌else◌};
+ghost use Rattle.std.specs.Prelude.{◌≡◌, ◌+◌, ◌*◌, ◌<◌, ◌≤◌, length};
 ghost use Rattle.model.specs.Limits.{most_nodes};
 ghost use Rattle.model.specs.Tables.{held};
 ghost use Rattle.model.specs.Texts.{feed_of};
@@ -41,19 +41,20 @@ fn closing_tokens(node: Node) -> usize
     }
 }
 
-// So many tokens, or none if they are not counted.
-fn tokens_if(counted: bool, tokens: usize) -> usize
-    ensures { result ≡ (if counted then tokens else 0) }
-{
-    if counted { tokens } else { 0 }
-}
-
 // How many of its own tokens stand before the target, for a node at a place whose parts end at another.
 fn own_tokens(node: Node, place: usize, end: usize, target: usize) -> usize
     ensures { result ≡ own_count node place end target }
 {
-    let opening = tokens_if(place < target, opening_tokens(node));
-    let closing = tokens_if(end <= target, closing_tokens(node));
+    let opening = if place < target {
+        opening_tokens(node)
+    } else {
+        0
+    };
+    let closing = if end <= target {
+        closing_tokens(node)
+    } else {
+        0
+    };
     opening + closing
 }
 
@@ -97,10 +98,7 @@ fn walk_parts(nodes: &[Node], place: usize, count: usize, target: usize) -> Walk
 fn next_span(src: &mut Lexer) -> Option<Span>
     ensures { NextSpan src.old result src.new }
 {
-    match src.next() {
-        Ok(Some(token)) => Some(token.span()),
-        _ => None,
-    }
+    src.next().ok().flatten().map(|token| token.span)
 }
 
 // The place of the token before which so many others stand.

@@ -16,7 +16,7 @@ returns-then-text-gt-MOST_BYTES c =
     record { outcome = o; reading = (inl (c.if-text-gt-MOST_BYTES.true, refl), λ e. never text (TooLarge past_end) e o, refl) }
 
 pub read_program-requires : goal.read_program-requires
-read_program-requires c = record { cap = c.args.table.now.spare.room; fresh = nil_from_length (vec_items c.args.table.now.spare.nodes) (omega (arith, c.args.table.now.fresh, c.args.table.now.spare.nodes.ok.0)) }
+read_program-requires c = record { fresh = nil_from_length (vec_items c.args.table.now.spare.nodes) (omega (arith, c.args.table.now.fresh, c.args.table.now.spare.nodes.ok.0)) }
 
 pub returns-in-Err : goal.returns-in-Err
 returns-in-Err c =
@@ -26,11 +26,11 @@ returns-in-Err c =
 
 pub invariant_of-table-3 : goal.invariant_of-table-3
 invariant_of-table-3 c =
-    let l = subst (λ v. Loaded c.args.text.now (vec_items v)) (sym c.swap.ensures.x_after) (loaded c.args.text.now (vec_items c.read_program.new.out) (vec_len c.read_program.new.out) c.in_default.ensures.read c.if-text-gt-MOST_BYTES.false c.in_default.ensures.goes) in
+    let l = subst (λ v. Loaded c.args.text.now (vec_items v)) (sym c.swap.ensures.x_after) (loaded c.args.text.now (vec_items c.read_program.new.out.nodes) (vec_len c.read_program.new.out.nodes) c.in_default.ensures.read c.if-text-gt-MOST_BYTES.false c.in_default.ensures.goes) in
     let few : vec_len c.swap.new.x ≤ 640 = omega (arith, l.few, c.swap.new.x.ok.0) in
-    ((search rules, tt), (l.are_whole, (few, (search rules, (search rules, tt)))))
+    (search rules, (l.are_whole, (few, (search rules, (search rules, tt)))))
 
 pub returns : goal.returns
 returns c =
-    let l = subst (λ v. Loaded c.args.text.now (vec_items v)) (sym c.swap.ensures.x_after) (loaded c.args.text.now (vec_items c.read_program.new.out) (vec_len c.read_program.new.out) c.in_default.ensures.read c.if-text-gt-MOST_BYTES.false c.in_default.ensures.goes) in
+    let l = subst (λ v. Loaded c.args.text.now (vec_items v)) (sym c.swap.ensures.x_after) (loaded c.args.text.now (vec_items c.read_program.new.out.nodes) (vec_len c.read_program.new.out.nodes) c.in_default.ensures.read c.if-text-gt-MOST_BYTES.false c.in_default.ensures.goes) in
     record { outcome = l.outcome; reading = (l.accepted, read_small c.args.text.now (program (vec_items c.swap.new.x)) l.accepted, λ other e a. same_program other c.args.text.now e (program (vec_items c.swap.new.x)) a l.accepted) }

@@ -6,8 +6,8 @@ use Rattle.text.specs.Lexer.{token_of}
 use Rattle.text.proofs.Ways.{none_read, node_read}
 use Rattle.text.proofs.reader.vector_from.Goals as goal
 
-pub returns : goal.returns
-returns c =
+pub returns-clause-read : goal.returns-clause-read
+returns-clause-read c =
     let q : token_of c.args.token ≡ mark Left = search rules in
     let v = c.in_ok-vector.ensures.took in
-    record { read = node_read (S.vec c.in_ok-vector.vector) (cc) c.push_reserved.ensures.items (none_read refl) refl; same = search rules; ahead = search rules; longer = search rules; cap = search rules; goes = search rules }
+    node_read (S.vec c.in_ok-vector.vector) (cc) c.push_reserved.ensures.items (none_read refl) refl
