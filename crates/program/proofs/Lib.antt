@@ -13,3 +13,4 @@ pub mod Loads
 pub mod Places
 pub mod Hopping
 pub mod Items
+pub mod Taken

@@ -4,10 +4,13 @@ ghost use Rattle.model.specs.declared.node.Triple.{Triple};
 ghost use Rattle.model.specs.Syntax.{vector};
 ghost use Rattle.model.specs.Axes.{exact};
 ghost use Rattle.model.specs.Unrolling.{programs};
-ghost use Rattle.program.specs.Elements.{nodes_of, part as part_of, Follows, Hops, Holds, Finds, Behind};
+ghost use Rattle.program.specs.Elements.{nodes_of, part as part_of, Follows, Hops, Comes, Holds, Finds, Behind};
 
 use super::layout::Layout;
 use model::{Node, Placement, Wide};
+
+// What stands for a vector where none is.
+const ZEROS: Wide = Wide { x: 0, y: 0, z: 0 };
 
 /// A term, and the index of the loop around it.
 #[derive(Clone, Copy)]
@@ -104,15 +107,24 @@ impl Layout {
         }
     }
 
+    // The vector that a term is at its index.
+    fn vector_at(&self, term: Term) -> Wide
+        ensures { (x : Triple) → Comes programs (nodes_of self.now) term vector x → exact result ≡ x }
+    {
+        match self.node_at(term.place) {
+            Node::Vector(v) => v.at(term.index),
+            _ => ZEROS,
+        }
+    }
+
     /// The element `k` of a list of vectors; zeros where no such list stands.
     pub fn vector_item(&self, list: Term, k: u128) -> Wide
         ensures { (x : Triple) → Holds programs (nodes_of self.now) list k vector x → exact result ≡ x }
     {
-        if let Some(Item::Whole(term)) = self.find_item(list, k) {
-            if let Node::Vector(v) = self.node_at(term.place) {
-                return v.at(term.index);
-            }
+        match self.find_item(list, k) {
+            Some(Item::Whole(term)) => self.vector_at(term),
+            Some(Item::Placed(_, _)) => ZEROS,
+            None => ZEROS,
         }
-        Wide { x: 0, y: 0, z: 0 }
     }
 }

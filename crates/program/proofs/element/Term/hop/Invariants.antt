@@ -1,4 +1,5 @@
 use Rattle.std.proofs.Common.{◌-◌, ◌≤◌}
+use Rattle.model.specs.Unrolling.{programs}
 use Rattle.program.specs.declared.element.Term.{Term}
 use Rattle.program.specs.Elements.{nodes_of, Hops}
 use Rattle.program.proofs.element.Term.hop.Given as goal

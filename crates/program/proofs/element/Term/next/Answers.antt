@@ -7,5 +7,5 @@ returns c =
     record {
       index = refl;
       ahead = omega arith;
-      after = behind c.args.layout.now c.args.self.place c.saturating_add.result c.measure_at-nodes.result c.measure_at-nodes.ensures c.saturating_add.ensures;
+      after = behind c.args.layout.now c.args.self.place c.saturating_add.result c.measure_at-nodes.result c.measure_at-nodes.ensures.tells c.saturating_add.ensures;
     }
