@@ -7,13 +7,13 @@ use Rattle.model.specs.declared.node.Node.TheVariants as v
 use Rattle.model.specs.declared.node.Placement.{Placement}
 use Rattle.model.specs.declared.node.Linear.{Linear}
 use Rattle.model.specs.declared.node.Triple.{Triple}
-use Rattle.model.specs.Syntax.{Kind, solid, vector, Sort, one, many, Head, arity, Expr, Exprs, Solid, Empty, node, none, more, textual_head, textual, textuals}
+use Rattle.model.specs.Syntax.{Kind, solid, vector, Sort, one, many, Head, arity, Expr, Exprs, Solid, node, none, more, textual_head, textual, textuals}
 use Rattle.model.specs.Syntax as S
 use Rattle.model.specs.Nodes.{node_of, flatten, flattens}
 use Rattle.model.specs.Held.{head_at, sorted_on, only}
 use Rattle.model.specs.Spelling.{closing_text}
 use Rattle.model.specs.Placements.{at}
-use Rattle.model.specs.Shapes.{Val, made_of, idle, natural, run, runs, zip_with}
+use Rattle.model.specs.Shapes.{Shape, Val, made_of, idle, natural, run, runs, zip_with}
 use Rattle.model.specs.Counts.{elements, count, counts}
 use Rattle.model.specs.Unrolling.{programs}
 use Rattle.model.proofs.Readable.{headed}
@@ -79,9 +79,9 @@ unfolding flattens textuals
 part_begins nodes place (more e none) rest stand plain =
     record { rest = rest; stands = stand ∙ ap (λ l. l ++ rest) (append-nil (flatten e)); plain = (and_parts (textual e) true plain).0 }
 
-pub part_run : {s : Sort} (ps : Exprs (s ∷ [])) (i : ℕ) → run programs (only ps) i ≡ (runs programs ps i).0
+pub part_run : {X : Type 0} (H : Shape X) {s : Sort} (ps : Exprs (s ∷ [])) (i : ℕ) → run H (only ps) i ≡ (runs H ps i).0
 unfolding runs
-part_run (more e none) i = refl
+part_run H (more e none) i = refl
 
 -- ---- two parts
 pub record Pair {s s' : Sort} (nodes : List Node) (place : ℕ) (ps : Exprs (s ∷ s' ∷ [])) : Type 0 where
@@ -152,7 +152,7 @@ module _ (nodes : List Node) (t : Term) (j : ℕ) (k : Kind) (x : Val Solid k) (
       let body : Comes programs nodes (under t) k x = record {
         expr = only ps;
         begins = part_begins nodes (t.place + 1) ps o.rest o.stand (and_parts true (textuals ps) o.plain).1;
-        is = part_run ps t.index ∙ sym (at_replicate (natural n) j (runs programs ps t.index).0 (idle programs k) o.within) ∙ o.is;
+        is = part_run programs ps t.index ∙ sym (at_replicate (natural n) j (runs programs ps t.index).0 (idle programs k) o.within) ∙ o.is;
       } in
       subst (λ w. Comes programs nodes w k x) (sym at) body
 
@@ -164,7 +164,7 @@ module _ (nodes : List Node) (t : Term) (j : ℕ) (k : Kind) (x : Val Solid k) (
       record {
         expr = only ps;
         begins = subst (λ w. Begins nodes w.place (only ps)) (sym at) (part_begins nodes (t.place + 1) ps o.rest o.stand (and_parts true (textuals ps) o.plain).1);
-        is = part_run ps i ∙ ap f (same ∙ omega arith) ∙ sym (at_from f 0 (natural n) j (idle programs k) o.within) ∙ o.is;
+        is = part_run programs ps i ∙ ap f (same ∙ omega arith) ∙ sym (at_from f 0 (natural n) j (idle programs k) o.within) ∙ o.is;
       }
 
   -- an index is below its loop's count
@@ -212,14 +212,14 @@ module _ (nodes : List Node) (t : Term) (j : ℕ) (k : Kind) (x : Val Solid k) (
       }
 
 -- ---- a list of solids as a whole
-pub list_long : (nodes : List Node) (t : Term) (m : Measure) → TellsHere nodes t.place m → (l : Expr (many solid)) → Begins nodes t.place l
-    → (count l ≡ m.elements) × (length (run programs l t.index) ≡ m.elements)
-list_long nodes t m told l b =
-    let many-told = sym (ap (λ y. y.elements) (told (many solid) l b.rest b.stands)) in
-    (many-told, length_run programs l t.index ∙ many-told)
+module _ {X : Type 0} (H : Shape X) (nodes : List Node) (t : Term) (l : Expr (many solid)) (b : Begins nodes t.place l) where
+  pub list_long : (m : Measure) → TellsHere nodes t.place m → (count l ≡ m.elements) × (length (run H l t.index) ≡ m.elements)
+  list_long m told =
+      let many-told = sym (ap (λ y. y.elements) (told (many solid) l b.rest b.stands)) in
+      (many-told, length_run H l t.index ∙ many-told)
 
-pub list_holds : (nodes : List Node) (t : Term) (l : Expr (many solid)) → Begins nodes t.place l → (j : ℕ) → j < count l → Holds programs nodes t j solid (get_or (run programs l t.index) j Empty)
-list_holds nodes t l b j lt = record { list = l; begins = b; within = lt; is = refl }
+  pub list_holds : (j : ℕ) → j < count l → Holds H nodes t j solid (get_or (run H l t.index) j H.empty)
+  list_holds j lt = record { list = l; begins = b; within = lt; is = refl }
 
 -- ---- what no list is
 pub head_here : (nodes : List Node) (place : ℕ) {s : Sort} (h : Head s) (es : Exprs (arity h)) → Begins nodes place (node h es) → get_or nodes place v.Empty ≡ node_of h

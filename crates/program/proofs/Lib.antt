@@ -14,3 +14,4 @@ pub mod Places
 pub mod Hopping
 pub mod Items
 pub mod Taken
+pub mod Solids
