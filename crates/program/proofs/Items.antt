@@ -54,6 +54,10 @@ behind_part nodes t u None h l b = tt
 behind_part nodes t u (Some (Whole w)) h l b = (h, omega (arith, b.1))
 behind_part nodes t u (Some (Placed p both)) h l b = (h, omega (arith, b.1))
 
+-- an item, as a pattern has it
+pub item_is : {X : Type 0} (H : Shape X) (nodes : List Node) (k : Kind) (x : Val X k) {r s : Item} → r ≡ s → IsItem H nodes (Some r) k x → IsItem H nodes (Some s) k x
+item_is H nodes k x e is = let P : Item → Type 0 = λ i. IsItem H nodes (Some i) k x in subst P e is
+
 -- ---- the parts of an expression, by the node at its place
 pub record Opened {s : Sort} (nodes : List Node) (place : ℕ) (h : Head s) (e : Expr s) : Type 0 where
   pub parts : Exprs (arity h)
