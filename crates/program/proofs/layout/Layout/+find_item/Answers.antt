@@ -9,17 +9,6 @@ use Rattle.program.proofs.Items.{behind_first, behind_part, no_list, no_vectors}
 use Rattle.program.proofs.Lists.{in_list, in_repeat, in_tabulate, index_fits, in_left, in_right, in_map2}
 use Rattle.program.proofs.layout.Layout.+find_item.Goals as goal
 
-pub find_item-requires : goal.find_item-requires
-find_item-requires t c =
-    let u = c.part-first.result in
-    let ahead = behind_first c.args.self.now c.args.list u u v.Concat c.in-Concat.ensures (omega arith) c.part-first.ensures (omega arith) in
-    (omega arith, tt)
-
-pub find_item-requires-else-k-left : goal.find_item-requires-else-k-left
-find_item-requires-else-k-left t c =
-    let ahead = behind_first c.args.self.now c.args.list c.part-first.result c.next.result v.Concat c.in-Concat.ensures (omega arith) c.part-first.ensures c.next.ensures.ahead in
-    (omega arith, tt)
-
 pub returns-in-List : goal.returns-in-List
 returns-in-List t c =
     let l = c.args.self.now in
