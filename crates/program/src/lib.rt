@@ -9,6 +9,7 @@ mod layout;
 mod load;
 mod measure;
 mod measuring;
+mod narrow;
 mod part;
 mod primitives;
 mod unloaded;
@@ -16,5 +17,6 @@ mod walk;
 
 pub use layout::Layout;
 pub use measure::Measure;
+pub use narrow::{bounded_at, narrowed};
 pub use part::Part;
 pub use unloaded::Unloaded;

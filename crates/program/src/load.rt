@@ -33,7 +33,7 @@ impl Unloaded {
         ensures { result ≡ report_of self }
     {
         match self {
-            Unloaded::Unread(refusal) => refusal.report(),
+            Unloaded::Unread(refusal) => Report::from(refusal),
             Unloaded::Illegal(law, span) => Report {
                 number: law_number(law),
                 layer: Layer::Legality,
