@@ -12,6 +12,7 @@ mod measuring;
 mod narrow;
 mod part;
 mod primitives;
+mod report;
 mod unloaded;
 mod walk;
 
