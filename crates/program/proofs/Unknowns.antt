@@ -1,5 +1,5 @@
 -- Primitives that a family finds legal at every index, or illegal at some. Assumes nothing.
-use Rattle.std.proofs.Common.{◌≡◌, ℕ, suc, ◌<◌, ◌≤◌, min, Bool, true, false, cond, not, ◌||◌, eqb, ℤ, pos, negsuc, ◌+ℤ◌, nat_abs, Option, sym, refl, ap, ◌∙◌, subst, inl, inr, mul-zero, arith}
+use Rattle.std.proofs.Common.{◌≡◌, ℕ, suc, ◌<◌, min, Bool, true, false, cond, not, ◌||◌, eqb, ℤ, pos, negsuc, ◌+ℤ◌, nat_abs, Option, sym, refl, ap, ◌∙◌, subst, inl, inr, mul-zero, arith}
 use Rattle.std.proofs.lemmas.Bool.{true≢false, eqb-true, not-false, or_parts, or_right, cases_Bool}
 use Rattle.model.specs.declared.law.Context.{Context}
 use Rattle.model.specs.declared.node.Linear.{Linear}

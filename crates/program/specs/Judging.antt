@@ -1,5 +1,5 @@
 -- What is judged of a program's nodes, one law at a time. Assumes nothing.
-use Rattle.std.specs.Prelude.{◌≡◌, ℕ, ◌+◌, ◌≤◌, min, Bool, cond, not, ◌||◌, List, ◌++◌, length, drop, ℤ, Some, None, Ok, Err, Option, Result, slice_index, slice_index_or}
+use Rattle.std.specs.Prelude.{◌≡◌, ℕ, ◌+◌, ◌≤◌, min, Bool, cond, not, ◌||◌, List, ◌++◌, length, drop, ℤ, Some, None, Ok, Err, Option, Result, slice_index, slice_index_or, vec_items}
 use Rattle.std.specs.List.{list_any, range_with_len}
 use Rattle.model.specs.declared.law.Law.{Law}
 use Rattle.model.specs.declared.law.Law.TheVariants.{Size, Loops, Numbers, Primitives, Pairs, Lengths}
@@ -17,8 +17,9 @@ use Rattle.model.specs.Shapes.{natural}
 use Rattle.model.specs.Counts.{elements}
 use Rattle.model.specs.Legality.{some_axis, nonzero, beyond, first, firsts, culprit}
 use Rattle.program.specs.declared.judge.Counts.{Counts}
+use Rattle.program.specs.declared.layout.Layout.{Layout}
 use Rattle.program.specs.declared.measure.Measure.{Measure}
-use Rattle.program.specs.Measures.{Tells, nothing}
+use Rattle.program.specs.Measures.{nothing}
 
 -- how many indices the loop around a node has: without one there is the index 0
 abbrev pub turns : Option ℤ → ℕ
@@ -63,15 +64,15 @@ walked None end = Ok end
 walked (Some n) end = Err n
 
 -- the expression at a place was judged; by the law on primitives, if it keeps the law on numbers
-abbrev pub TermJudged : Meaning → Law → List Node → List Measure → ℕ → Context → Result ℕ ℕ → Type 0
-TermJudged m law nodes ms place c r =
-    Tells nodes ms → (s : Sort) (e : Expr s) (rest : List Node) → drop place nodes ≡ flatten e ++ rest
+abbrev pub TermJudged : Meaning → Law → Layout → ℕ → Context → Result ℕ ℕ → Type 0
+TermJudged m law l place c r =
+    (s : Sort) (e : Expr s) (rest : List Node) → drop place (vec_items l.table.nodes) ≡ flatten e ++ rest
     → (law ≡ Primitives → first m Numbers c e place ≡ None) → r ≡ walked (first m law c e place) (place + size e)
 
 -- the same of so many expressions in a row
-abbrev pub PartsJudged : Meaning → Law → List Node → List Measure → ℕ → ℕ → Context → Result ℕ ℕ → Type 0
-PartsJudged m law nodes ms place n c r =
-    Tells nodes ms → (ss : List Sort) (es : Exprs ss) (rest : List Node) → length ss ≡ n → drop place nodes ≡ flattens es ++ rest
+abbrev pub PartsJudged : Meaning → Law → Layout → ℕ → ℕ → Context → Result ℕ ℕ → Type 0
+PartsJudged m law l place n c r =
+    (ss : List Sort) (es : Exprs ss) (rest : List Node) → length ss ≡ n → drop place (vec_items l.table.nodes) ≡ flattens es ++ rest
     → (law ≡ Primitives → firsts m Numbers c es place ≡ None) → r ≡ walked (firsts m law c es place) (place + sizes es)
 
 -- the law that has to be kept before a law is judged by the walk: the family is asked of allowed numbers, and the unrolling counted of equal lists

@@ -51,8 +51,7 @@ impl Layout {
         let judge = Judge {
             law,
             family,
-            nodes: self.table.nodes.as_slice(),
-            measures: self.measures.as_slice(),
+            layout: self,
         };
         judge.term(0, ROOT).err()
     }

@@ -112,12 +112,6 @@ fn fill(nodes: &[Node], measures: &mut [Measure])
     }
 }
 
-const NOTHING: Measure = Measure {
-    nodes: 0,
-    elements: 0,
-    unrolled: 0,
-};
-
 // Makes the measures those of the nodes.
 pub(crate) fn measure_nodes(nodes: &[Node], measures: &mut Vec<Measure>)
     requires few { length nodes.now ≤ most_nodes }
@@ -127,7 +121,7 @@ pub(crate) fn measure_nodes(nodes: &[Node], measures: &mut Vec<Measure>)
 {
     measures.clear();
     for _ in nodes {
-        measures.push_reserved(NOTHING);
+        measures.push_reserved(Measure::NOTHING);
     }
     fill(nodes, measures.as_mut_slice());
 }
