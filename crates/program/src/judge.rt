@@ -46,10 +46,7 @@ pub(crate) struct Counts {
 pub(crate) fn breaks_pairs(node: Node, counts: Counts) -> bool
     ensures { (m : Meaning) (c : Context) (cs : List ℕ) → Counted counts node cs → result ≡ is_broken m c cs node Pairs }
 {
-    match node {
-        Node::Map2(_) => counts.first != counts.second,
-        _ => false,
-    }
+    matches!(node, Node::Map2(_)) && counts.first != counts.second
 }
 
 pub(crate) fn breaks_lengths(node: Node, counts: Counts) -> bool
@@ -86,11 +83,11 @@ pub(crate) fn below(node: Node, context: Context) -> Context
     match node {
         Node::Tabulate(count) => Context {
             around: Some(count),
-            placement: context.placement,
+            ..context
         },
         Node::Map2(placement) => Context {
-            around: context.around,
             placement,
+            ..context
         },
         _ => context,
     }
