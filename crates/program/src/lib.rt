@@ -11,6 +11,7 @@ mod measure;
 mod measuring;
 mod narrow;
 mod part;
+mod parts;
 mod primitives;
 mod report;
 mod unloaded;
