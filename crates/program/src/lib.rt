@@ -11,13 +11,17 @@ mod load;
 mod lookup;
 mod measure;
 mod measuring;
+mod narrow;
 mod part;
+mod parts;
 mod primitives;
+mod report;
 mod unloaded;
 mod walk;
 
 pub use element::{Both, Item, Term};
 pub use layout::Layout;
 pub use measure::Measure;
+pub use narrow::{bounded_at, narrowed};
 pub use part::Part;
 pub use unloaded::Unloaded;
