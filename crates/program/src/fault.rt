@@ -9,7 +9,6 @@ ghost use Rattle.model.specs.Tables.{held};
 ghost use Rattle.model.specs.Legality.{root, first as first_in, culprit as culprit_in, fault as fault_of};
 ghost use Rattle.program.specs.Judging.{KeptBefore};
 
-use super::judge::measure_at;
 use super::layout::Layout;
 use super::walk::Judge;
 use family::Family;
@@ -42,7 +41,7 @@ impl Layout {
     fn unrolls_too_far(&self) -> bool
         ensures { result ≡ nat_lt most_unrolled (weight (held self.now.table)) }
     {
-        MOST_UNROLLED < measure_at(self.measures.as_slice(), 0).unrolled
+        MOST_UNROLLED < self.measure_at(0).unrolled
     }
 
     // The first node that breaks a law; that on primitives, if all keep that on numbers.

@@ -8,7 +8,6 @@ ghost use Rattle.program.specs.Judging.{Counted, counts_told};
 
 use super::bounds::{is_loose, is_uncounted, is_unkind, is_wild};
 use super::layout::Layout;
-use super::measure::Measure;
 use model::{Context, MOST_ELEMENTS, Node, Placement};
 
 pub(crate) fn breaks_loops(node: Node, context: Context) -> bool
@@ -55,22 +54,15 @@ pub(crate) fn breaks_lengths(node: Node, counts: Counts) -> bool
     MOST_ELEMENTS < counts.own
 }
 
-pub(crate) fn measure_at(measures: &[Measure], place: usize) -> Measure
-    ensures { result ≡ slice_index_or measures.now place nothing }
-{
-    measures.get(place).copied().unwrap_or(Measure::NOTHING)
-}
-
 /// What is told of the lists at a place and behind it, as of a node and its first two parts.
 pub(crate) fn counts_at(layout: &Layout, place: usize) -> Counts
     requires { place < 2 ^ 63 }
     ensures { result ≡ counts_told (vec_items layout.now.measures) place }
 {
-    let measures = layout.measures.as_slice();
-    let first = measure_at(measures, place + 1);
-    let second = measure_at(measures, first.nodes.saturating_add(place + 1));
+    let first = layout.measure_at(place + 1);
+    let second = layout.measure_at(first.nodes.saturating_add(place + 1));
     Counts {
-        own: measure_at(measures, place).elements,
+        own: layout.measure_at(place).elements,
         first: first.elements,
         second: second.elements,
     }

@@ -21,11 +21,7 @@ impl Layout {
         ensures is { result ≡ slice_index_or (vec_items self.now.measures) place nothing }
         ensures tells { TellsHere (nodes_of self.now) place result }
     {
-        let nothing = Measure {
-            nodes: 0,
-            elements: 0,
-            unrolled: 0,
-        };
-        self.measures.get(place).copied().unwrap_or(nothing)
+        let told = self.measures.get(place);
+        told.copied().unwrap_or(Measure::NOTHING)
     }
 }

@@ -16,9 +16,8 @@ capped ms a b short is =
 pub returns : goal.returns
 returns c =
     let ms = vec_items c.args.layout.now.measures in
-    let is = c.as_slice-measures.ensures.value in
     let short : length ms < 2 ^ 63 = search rules in
-    let one = c.measure_at-first.ensures ∙ ap (λ l. get_or l (c.args.place + 1) nothing) is in
-    let two = c.measure_at-second.ensures ∙ ap (λ l. get_or l c.saturating_add.result nothing) is ∙ capped ms (c.args.place + 1 + c.measure_at-first.result.nodes) c.saturating_add.result short (omega (arith, c.saturating_add.ensures)) ∙ ap (λ (t : Measure). get_or ms (c.args.place + 1 + t.nodes) nothing) one in
-    let own = c.measure_at.ensures ∙ ap (λ l. get_or l c.args.place nothing) is in
+    let one = c.measure_at-first.ensures.is in
+    let two = c.measure_at-second.ensures.is ∙ capped ms (c.args.place + 1 + c.measure_at-first.result.nodes) c.saturating_add.result short (omega (arith, c.saturating_add.ensures)) ∙ ap (λ (t : Measure). get_or ms (c.args.place + 1 + t.nodes) nothing) one in
+    let own = c.measure_at.ensures.is in
     λ i. record { own = (own i).elements; first = (one i).elements; second = (two i).elements }
