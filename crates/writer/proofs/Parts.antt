@@ -11,20 +11,21 @@ use Rattle.program.specs.declared.part.Part.{Part}
 use Rattle.writer.specs.Elements.{nodes_of, Comes}
 use Rattle.model.proofs.Respelled.{lexes_back}
 use Rattle.writer.proofs.Smalls.{small_unrolling}
-use Rattle.writer.proofs.Tables.{held_nodes, front}
+use Rattle.program.proofs.Layouts.{stands}
+use Rattle.writer.proofs.Tables.{front}
 
 pub part_comes : (p : Part) → Comes (nodes_of p.layout) (record { place = 0; index = 0 }) solid (unroll (held p.layout.table))
 unfolding unroll
 part_comes p =
     record {
       expr = held p.layout.table;
-      begins = record { rest = []; stands = held_nodes p.layout.table; plain = p.orderless };
+      begins = record { rest = []; stands = stands p.layout.table; plain = p.orderless };
       is = refl;
     }
 
-pub part_says : (p : Part) (n : ℕ) (old new : List ℕ) → n ≡ length (text_of (unroll (held p.layout.table))) → new ≡ text_of (unroll (held p.layout.table)) ++ drop n old
+pub part_says : (p : Part) (n : ℕ) (old new : List ℕ) → (n ≡ length (text_of (unroll (held p.layout.table)))) × (new ≡ text_of (unroll (held p.layout.table)) ++ drop n old)
     → Clean (feed_of (take n new)) × (said (feed_of (take n new)) ≡ tokens (unroll (held p.layout.table)))
-part_says p n old new at is =
+part_says p n old new wrote =
     let ts = tokens (unroll (held p.layout.table)) in
-    subst (λ l. Clean (feed_of l) × (said (feed_of l) ≡ ts)) (sym (front (text_of (unroll (held p.layout.table))) n old new at is))
+    subst (λ l. Clean (feed_of l) × (said (feed_of l) ≡ ts)) (sym (front (text_of (unroll (held p.layout.table))) n old new wrote.0 wrote.1))
     (lexes_back ts (small_unrolling (held p.layout.table) p.tame))

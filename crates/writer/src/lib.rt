@@ -4,6 +4,7 @@
 mod decimal;
 mod element;
 mod flat;
+mod sink;
 mod writer;
 
 pub use flat::unroll;

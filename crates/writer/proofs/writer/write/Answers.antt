@@ -1,29 +1,38 @@
-use Rattle.std.proofs.Common.{◌^◌, ◌<◌, [], length, refl, ap, ◌∙◌, arith, rules}
+use Rattle.std.proofs.Common.{◌^◌, ◌<◌, ◌≤◌, [], length, refl, ap, ◌∙◌, arith, rules}
 use Rattle.model.specs.Syntax.{one, solid}
+use Rattle.model.specs.Spelling.{text_of}
 use Rattle.model.specs.Tables.{held}
 use Rattle.model.proofs.Spelled.{text_length}
-use Rattle.writer.proofs.Puts.{put_all}
-use Rattle.writer.proofs.Tables.{held_nodes, held_some, held_short, held_reads}
+use Rattle.program.proofs.Layouts.{stands, some_nodes}
+use Rattle.writer.proofs.Puts.{counted, filled}
+use Rattle.writer.proofs.Tables.{held_short, held_reads}
 use Rattle.writer.proofs.writer.write.Goals as goal
 
-pub put_term-length-requires : goal.put_term-length-requires
-put_term-length-requires c = omega (arith, held_some c.args.table.now, ap length c.as_slice-nodes.ensures.value)
+pub put_term-requires : goal.put_term-requires
+put_term-requires c = omega (arith, some_nodes c.args.table.now, ap length c.as_slice-nodes.ensures.value)
 
-pub returns-then-out-length : goal.returns-then-out-length
-returns-then-out-length c =
+pub put_term-requires-2 : goal.put_term-requires-2
+put_term-requires-2 c = omega (arith, some_nodes c.args.table.now, ap length c.as_slice-nodes.ensures.value)
+
+pub returns-then-out-measured : goal.returns-then-out-measured
+returns-then-out-measured c =
     let t = c.args.table.now in
-    let measured = (c.put_term-length.ensures.puts (one solid) (held t) [] (c.as_slice-nodes.ensures.value ∙ held_nodes t)).1 in
-    record { wrote = (omega (arith, measured.end), refl); measure = text_length (one solid) (held t); short = held_short t; reads_back = tt }
-
-pub put_term-end-requires : goal.put_term-end-requires
-put_term-end-requires c = omega (arith, held_some c.args.table.now, ap length c.as_slice-nodes.ensures.value)
+    let measured = (c.put_term.ensures.puts (one solid) (held t) [] (c.as_slice-nodes.ensures.value ∙ stands t)).1 in
+    let far = counted c.new-measured.result c.put_term.new.sink measured c.new-measured.ensures.start in
+    record { wrote = (omega arith, refl); measure = text_length (one solid) (held t); short = held_short t; reads_back = tt }
 
 pub returns : goal.returns
 returns c =
     let t = c.args.table.now in
-    let old = c.args.out.now in
-    let fits : length old < 2 ^ 63 = search rules in
-    let stands = c.as_slice-nodes.ensures.value ∙ held_nodes t in
-    let measured = (c.put_term-length.ensures.puts (one solid) (held t) [] stands).1 in
-    let wrote = put_all (c.put_term-end.ensures.puts (one solid) (held t) [] stands).1 (omega (arith, measured.end)) fits in
-    record { wrote = wrote; measure = text_length (one solid) (held t); short = held_short t; reads_back = held_reads t c.put_term-end.result.at old c.put_term-end.new.out wrote.0 wrote.1 }
+    let here = c.as_slice-nodes.ensures.value ∙ stands t in
+    let fits : length c.args.out.now < 2 ^ 63 = search rules in
+    let far = counted c.new-measured.result c.put_term.new.sink (c.put_term.ensures.puts (one solid) (held t) [] here).1 c.new-measured.ensures.start in
+    let room : length (text_of (held t)) ≤ length c.args.out.now = omega arith in
+    let puts = (c.put_term-2.ensures.puts (one solid) (held t) [] here).1 in
+    let sink = c.new-sink.ensures in
+    record {
+      wrote = filled c.new-sink.result c.put_term-2.new.sink puts sink.start sink.bytes (search rules) room fits;
+      measure = text_length (one solid) (held t);
+      short = held_short t;
+      reads_back = held_reads t _ _ _ (filled c.new-sink.result c.put_term-2.new.sink puts sink.start sink.bytes (search rules) room fits);
+    }

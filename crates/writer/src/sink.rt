@@ -1,0 +1,38 @@
+// A buffer to write into. Nothing asks for memory, so a text that is too long is cut off and counted.
+ghost use Rattle.std.specs.Prelude.{◌≡◌, [], ◌∷◌};
+ghost use Rattle.writer.specs.Putting.{Puts};
+
+/// A buffer that is filled from its start; bytes past its end are only counted.
+#[derive(Drop)]
+pub struct Sink<'a> {
+    out: &'a mut [u8],
+    /// Where the next byte goes.
+    pub end: usize,
+}
+
+impl<'a> Sink<'a> {
+    pub fn new(out: &'a mut [u8]) -> Sink<'a>
+        ensures same { result.out.ghost_name ≡ out.entry.ghost_name }
+        ensures bytes { result.out.now ≡ out.old }
+        ensures start { result.end ≡ 0 }
+    {
+        Sink { out, end: 0 }
+    }
+
+    pub fn byte(&mut self, byte: u8)
+        ensures { Puts (byte ∷ []) self.old self.new }
+    {
+        if self.end < self.out.len() {
+            self.out[self.end] = byte;
+        }
+        self.end = self.end.saturating_add(1);
+    }
+
+    pub fn bytes(&mut self, bytes: &[u8])
+        ensures { Puts bytes.now self.old self.new }
+    {
+        for byte in bytes {
+            self.byte(*byte);
+        }
+    }
+}
