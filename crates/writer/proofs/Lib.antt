@@ -2,11 +2,6 @@ pub mod Puts
 pub mod Signs
 pub mod Programs
 pub mod Tables
-pub mod Places
-pub mod Linears
-pub mod Hopping
-pub mod Items
 pub mod Unions
-pub mod Solids
 pub mod Parts
 pub mod Smalls

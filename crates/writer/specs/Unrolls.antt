@@ -15,9 +15,9 @@ use Rattle.model.specs.Texts.{feed_of}
 use Rattle.model.specs.Unrolling.{programs, unroll}
 use Rattle.writer.specs.declared.sink.Sink.{Sink}
 use Rattle.writer.specs.declared.writer.Unwritten.{Unwritten}
-use Rattle.writer.specs.declared.element.Term.{Term}
+use Rattle.program.specs.declared.element.Term.{Term}
 use Rattle.writer.specs.Putting.{Puts}
-use Rattle.writer.specs.Elements.{Begins, Comes, Holds}
+use Rattle.program.specs.Elements.{Begins, Comes, Holds}
 
 -- what is written before a solid that is placed
 abbrev pub placing : Placement → Triple → List ℕ
@@ -29,11 +29,11 @@ joining o = opening_text (v.Join o) ++ (32 ∷ [])
 
 -- what the term comes to was put
 abbrev pub SolidPut : List Node → Term → Sink → Sink → Type 0
-SolidPut nodes term s t = (x : Solid) → Comes nodes term solid x → Puts (text_of x) s t
+SolidPut nodes term s t = (x : Solid) → Comes programs nodes term solid x → Puts (text_of x) s t
 
 -- what the element j of a list comes to was put
 abbrev pub ItemPut : List Node → Term → ℕ → Sink → Sink → Type 0
-ItemPut nodes list j s t = (x : Solid) → Holds nodes list j solid x → Puts (text_of x) s t
+ItemPut nodes list j s t = (x : Solid) → Holds programs nodes list j solid x → Puts (text_of x) s t
 
 -- the union of a list's elements was put
 abbrev pub UnionPut : List Node → Term → Sink → Sink → Type 0

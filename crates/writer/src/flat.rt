@@ -1,20 +1,20 @@
 // Writes the unrolling of a part as its text, without building it.
 ghost use Rattle.std.specs.Prelude.{Bool, true, replicate};
 ghost use Rattle.model.specs.Tokens.{bracket};
+ghost use Rattle.model.specs.Axes.{exact};
 ghost use Rattle.model.specs.Placements.{still};
 ghost use Rattle.model.specs.Spelling.{spells, text_of};
 ghost use Rattle.model.specs.Tables.{held};
 ghost use Rattle.model.specs.Unrolling.{programs, unroll as unrolling, UnrolledValues};
 ghost use Rattle.writer.specs.Putting.{Puts};
 ghost use Rattle.writer.specs.Writing.{Wrote};
-ghost use Rattle.writer.specs.Elements.{nodes_of, exact};
+ghost use Rattle.program.specs.Elements.{nodes_of};
 ghost use Rattle.writer.specs.Unrolls.{placing, joining, SolidPut, ItemPut, UnionPut, SaysUnrolling};
 
-use crate::element::{Item, Term, Wide, find_item, measure_at, node_at, vector_at, vector_item};
 use crate::sink::Sink;
 use crate::writer::{Unwritten, put_open};
-use model::{Node, Operator, Placement, Word};
-use program::{Layout, Part};
+use model::{Node, Operator, Placement, Wide, Word};
+use program::{Item, Layout, Part, Term};
 
 fn put_triple(sink: &mut Sink, v: Wide)
     ensures { Puts (spells true (bracket (still (exact v)))) sink.old sink.new }
@@ -71,11 +71,11 @@ fn put_solid(sink: &mut Sink, layout: &Layout, term: Term)
     ensures { SolidPut (nodes_of layout.now) term sink.old sink.new }
 {
     let first = term.part();
-    match node_at(layout, term.place) {
+    match layout.node_at(term.place) {
         Node::Empty => sink.bytes(b"Empty"),
-        Node::Primitive(kind, sizes) => put_primitive(sink, kind, vector_at(sizes, term.index)),
+        Node::Primitive(kind, sizes) => put_primitive(sink, kind, sizes.at(term.index)),
         Node::Place(placement, v) => {
-            put_placing(sink, placement, vector_at(v, term.index));
+            put_placing(sink, placement, v.at(term.index));
             put_solid(sink, layout, first);
             sink.byte(b')');
         }
@@ -97,7 +97,7 @@ fn put_solid(sink: &mut Sink, layout: &Layout, term: Term)
 fn put_union(sink: &mut Sink, layout: &Layout, list: Term)
     ensures { UnionPut (nodes_of layout.now) list sink.old sink.new }
 {
-    let count = measure_at(layout, list.place).elements;
+    let count = layout.measure_at(list.place).elements;
     if count == 0 {
         return sink.bytes(b"Empty");
     }
@@ -116,11 +116,11 @@ fn put_union(sink: &mut Sink, layout: &Layout, list: Term)
 fn put_item(sink: &mut Sink, layout: &Layout, list: Term, k: u128)
     ensures { ItemPut (nodes_of layout.now) list k sink.old sink.new }
 {
-    match find_item(layout, list, k) {
-        Item::Absent => (),
-        Item::Whole(term) => put_solid(sink, layout, term),
-        Item::Placed(placement, both) => {
-            put_placing(sink, placement, vector_item(layout, both.vectors, both.k));
+    match layout.find_item(list, k) {
+        None => (),
+        Some(Item::Whole(term)) => put_solid(sink, layout, term),
+        Some(Item::Placed(placement, both)) => {
+            put_placing(sink, placement, layout.vector_item(both.vectors, both.k));
             put_item(sink, layout, both.solids, both.k);
             sink.byte(b')');
         }

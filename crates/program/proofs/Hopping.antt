@@ -6,17 +6,17 @@ use Rattle.model.specs.Syntax.{Kind, one, Solid, more, textual, textuals}
 use Rattle.model.specs.Nodes.{flatten, flattens}
 use Rattle.model.specs.Shapes.{Val, row, idle, run, runs}
 use Rattle.model.specs.Unrolling.{programs}
-use Rattle.writer.specs.declared.element.Term.{Term}
-use Rattle.writer.specs.Elements.{Comes, Follows, Hops}
+use Rattle.program.specs.declared.element.Term.{Term}
+use Rattle.program.specs.Elements.{Comes, Follows, Hops}
 
-pub comes_as : {nodes : List Node} {t : Term} {k : Kind} {x y : Val Solid k} → x ≡ y → Comes nodes t k x → Comes nodes t k y
+pub comes_as : {nodes : List Node} {t : Term} {k : Kind} {x y : Val Solid k} → x ≡ y → Comes programs nodes t k x → Comes programs nodes t k y
 comes_as e c = record { expr = c.expr; begins = c.begins; is = c.is ∙ e }
 
-pub hops_as : (nodes : List Node) (t r : Term) {i j : ℕ} → i ≡ j → Hops nodes t i r → Hops nodes t j r
-hops_as nodes t r e h = let P : ℕ → Type 0 = λ n. Hops nodes t n r in subst P e h
+pub hops_as : (nodes : List Node) (t r : Term) {i j : ℕ} → i ≡ j → Hops programs nodes t i r → Hops programs nodes t j r
+hops_as nodes t r e h = let P : ℕ → Type 0 = λ n. Hops programs nodes t n r in subst P e h
 
 -- the first term
-pub hop_none : (nodes : List Node) (t : Term) (j : ℕ) → j ≡ 0 → Hops nodes t j t
+pub hop_none : (nodes : List Node) (t : Term) (j : ℕ) → j ≡ 0 → Hops programs nodes t j t
 unfolding flattens textuals runs
 hop_none nodes t j z k zero es rest stands plain lt = absurd (omega arith)
 hop_none nodes t j z k (suc n) (more e es) rest stands plain lt =
@@ -27,7 +27,7 @@ hop_none nodes t j z k (suc n) (more e es) rest stands plain lt =
     }
 
 -- a later term, by the one after the first
-pub hop_more : (nodes : List Node) (t u r : Term) (i j : ℕ) → j ≡ suc i → u.index ≡ t.index → Follows nodes t u → Hops nodes u i r → Hops nodes t j r
+pub hop_more : (nodes : List Node) (t u r : Term) (i j : ℕ) → j ≡ suc i → u.index ≡ t.index → Follows nodes t u → Hops programs nodes u i r → Hops programs nodes t j r
 unfolding flattens textuals runs
 hop_more nodes t u r i j is same after h k zero es rest stands plain lt = absurd (omega arith)
 hop_more nodes t u r i j is same after h k (suc n) (more e es) rest stands plain lt =

@@ -1,7 +1,7 @@
 use Rattle.std.proofs.Common.{arith}
-use Rattle.writer.specs.Elements.{nodes_of}
-use Rattle.writer.proofs.Hopping.{hops_as, hop_none, hop_more}
-use Rattle.writer.proofs.element.Term.hop.Goals as goal
+use Rattle.program.specs.Elements.{nodes_of}
+use Rattle.program.proofs.Hopping.{hops_as, hop_none, hop_more}
+use Rattle.program.proofs.element.Term.hop.Goals as goal
 
 pub loop-init : goal.loop-init
 loop-init c = (omega arith, λ r h. hops_as (nodes_of c.args.layout.now) c.args.self r (omega arith) h)

@@ -9,7 +9,7 @@ use Rattle.program.specs.declared.layout.Layout.{Layout}
 use Rattle.program.specs.declared.measure.Measure.{Measure}
 use Rattle.program.specs.Measures.{nothing}
 use Rattle.program.proofs.Told.{tells}
-use Rattle.writer.specs.Elements.{nodes_of, TellsHere}
+use Rattle.program.specs.Elements.{nodes_of, TellsHere}
 
 pub few_nodes : (l : Layout) → length (nodes_of l) ≤ 640
 few_nodes l = omega (arith, l.table.few, l.table.nodes.ok.0)

@@ -1,5 +1,5 @@
 -- What the elements of a list are, by the list's node. Assumes nothing.
-use Rattle.std.proofs.Common.{◌≡◌, ℕ, ◌+◌, ◌-◌, ◌^◌, ◌<◌, ◌≤◌, min, true, ◌&&◌, List, [], ◌∷◌, ◌++◌, length, get_or, drop, ℤ, pos, negsuc, sym, refl, ap, ◌∙◌, subst, ⊎_elim, append_assoc, append-nil, arith, w64, SFits}
+use Rattle.std.proofs.Common.{◌≡◌, ℕ, ◌+◌, ◌-◌, ◌^◌, ◌<◌, ◌≤◌, min, true, ◌&&◌, List, [], ◌∷◌, ◌++◌, length, get_or, drop, ℤ, pos, negsuc, Some, None, Option, sym, refl, ap, ◌∙◌, subst, ⊎_elim, append_assoc, append-nil, arith, w64, SFits}
 use Rattle.std.proofs.lemmas.List.{drop_more, get_or_past}
 use Rattle.std.proofs.lemmas.Bool.{and_parts, cases_lt, false≢true}
 use Rattle.model.specs.declared.node.Node.{Node}
@@ -7,13 +7,13 @@ use Rattle.model.specs.declared.node.Node.TheVariants as v
 use Rattle.model.specs.declared.node.Placement.{Placement}
 use Rattle.model.specs.declared.node.Linear.{Linear}
 use Rattle.model.specs.declared.node.Triple.{Triple}
-use Rattle.model.specs.Syntax.{Kind, solid, vector, Sort, one, many, Head, arity, Expr, Exprs, Solid, Empty, node, none, more, textual_head, textual, textuals}
+use Rattle.model.specs.Syntax.{Kind, solid, vector, Sort, one, many, Head, arity, Expr, Exprs, Solid, node, none, more, textual_head, textual, textuals}
 use Rattle.model.specs.Syntax as S
 use Rattle.model.specs.Nodes.{node_of, flatten, flattens}
 use Rattle.model.specs.Held.{head_at, sorted_on, only}
 use Rattle.model.specs.Spelling.{closing_text}
 use Rattle.model.specs.Placements.{at}
-use Rattle.model.specs.Shapes.{Val, made_of, idle, natural, run, runs, zip_with}
+use Rattle.model.specs.Shapes.{Shape, Val, made_of, idle, natural, run, runs, zip_with}
 use Rattle.model.specs.Counts.{elements, count, counts}
 use Rattle.model.specs.Unrolling.{programs}
 use Rattle.model.proofs.Readable.{headed}
@@ -23,12 +23,12 @@ use Rattle.model.proofs.Sequences.{at_from, at_replicate, at_zip, at_front, at_b
 use Rattle.model.proofs.Counted.{length_run}
 use Rattle.program.specs.declared.layout.Layout.{Layout}
 use Rattle.program.specs.declared.measure.Measure.{Measure}
-use Rattle.writer.specs.declared.element.Term.{Term}
-use Rattle.writer.specs.declared.element.Item.{Item}
-use Rattle.writer.specs.declared.element.Item.TheVariants.{Absent, Whole, Placed}
-use Rattle.writer.specs.Elements.{nodes_of, Begins, Behind, IsItem, TellsHere, part, Follows, Comes, Holds, Hops, Maps}
-use Rattle.writer.proofs.Places.{few_nodes, span}
-use Rattle.writer.proofs.Hopping.{comes_as}
+use Rattle.program.specs.declared.element.Term.{Term}
+use Rattle.program.specs.declared.element.Item.{Item}
+use Rattle.program.specs.declared.element.Item.TheVariants.{Whole, Placed}
+use Rattle.program.specs.Elements.{nodes_of, Begins, Behind, IsItem, TellsHere, part, Follows, Comes, Holds, Hops, Maps}
+use Rattle.program.proofs.Places.{few_nodes, span}
+use Rattle.program.proofs.Hopping.{comes_as}
 
 -- a node that a bracket closes stands within the list
 inside : (nodes : List Node) (place : ℕ) (n : Node) → n ≡ get_or nodes place v.Empty → 0 < length (closing_text n) → place < length nodes
@@ -49,10 +49,14 @@ first_part l t u n here closed is =
     (h, is ∙ ap (λ p. record { place = p; index = t.index }) e)
 
 -- what stands behind a part stands behind the node
-pub behind_part : (nodes : List Node) (t u : Term) (r : Item) → t.place < length nodes → t.place < u.place → Behind nodes u r → Behind nodes t r
-behind_part nodes t u Absent h l b = tt
-behind_part nodes t u (Whole w) h l b = (h, omega (arith, b.1))
-behind_part nodes t u (Placed p both) h l b = (h, omega (arith, b.1))
+pub behind_part : (nodes : List Node) (t u : Term) (r : Option Item) → t.place < length nodes → t.place < u.place → Behind nodes u r → Behind nodes t r
+behind_part nodes t u None h l b = tt
+behind_part nodes t u (Some (Whole w)) h l b = (h, omega (arith, b.1))
+behind_part nodes t u (Some (Placed p both)) h l b = (h, omega (arith, b.1))
+
+-- an item, as a pattern has it
+pub item_is : {X : Type 0} (H : Shape X) (nodes : List Node) (k : Kind) (x : Val X k) {r s : Item} → r ≡ s → IsItem H nodes (Some r) k x → IsItem H nodes (Some s) k x
+item_is H nodes k x e is = let P : Item → Type 0 = λ i. IsItem H nodes (Some i) k x in subst P e is
 
 -- ---- the parts of an expression, by the node at its place
 pub record Opened {s : Sort} (nodes : List Node) (place : ℕ) (h : Head s) (e : Expr s) : Type 0 where
@@ -79,9 +83,9 @@ unfolding flattens textuals
 part_begins nodes place (more e none) rest stand plain =
     record { rest = rest; stands = stand ∙ ap (λ l. l ++ rest) (append-nil (flatten e)); plain = (and_parts (textual e) true plain).0 }
 
-pub part_run : {s : Sort} (ps : Exprs (s ∷ [])) (i : ℕ) → run programs (only ps) i ≡ (runs programs ps i).0
+pub part_run : {X : Type 0} (H : Shape X) {s : Sort} (ps : Exprs (s ∷ [])) (i : ℕ) → run H (only ps) i ≡ (runs H ps i).0
 unfolding runs
-part_run (more e none) i = refl
+part_run H (more e none) i = refl
 
 -- ---- two parts
 pub record Pair {s s' : Sort} (nodes : List Node) (place : ℕ) (ps : Exprs (s ∷ s' ∷ [])) : Type 0 where
@@ -117,7 +121,7 @@ natural_fits : (z : ℤ) → SFits w64 z → natural z < 2 ^ 63
 natural_fits (pos n) f = f.sfits
 natural_fits (negsuc n) f = omega arith
 
-module _ (nodes : List Node) (t : Term) (j : ℕ) (k : Kind) (x : Val Solid k) (has : Holds nodes t j k x) where
+module _ (nodes : List Node) (t : Term) (j : ℕ) (k : Kind) (x : Val Solid k) (has : Holds programs nodes t j k x) where
   -- what is known of a list with this head
   record Listed (h : Head (many k)) : Type 0 where
     parts : Exprs (arity h)
@@ -140,23 +144,23 @@ module _ (nodes : List Node) (t : Term) (j : ℕ) (k : Kind) (x : Val Solid k) (
         is = ap (λ e. get_or (run programs e t.index) j (idle programs k)) (sym o.is) ∙ has.is;
       }
 
-  pub in_list : (u r : Term) (n : ℕ) → u ≡ under t → v.List n ≡ get_or nodes t.place v.Empty → Hops nodes u j r → Comes nodes r k x
+  pub in_list : (u r : Term) (n : ℕ) → u ≡ under t → v.List n ≡ get_or nodes t.place v.Empty → Hops programs nodes u j r → Comes programs nodes r k x
   in_list u r n at here hops =
       let o = listed (S.list n) here in
-      comes_as o.is (subst (λ w. Hops nodes w j r) at hops k n o.parts o.rest o.stand (and_parts true (textuals o.parts) o.plain).1 o.within)
+      comes_as o.is (subst (λ w. Hops programs nodes w j r) at hops k n o.parts o.rest o.stand (and_parts true (textuals o.parts) o.plain).1 o.within)
 
-  pub in_repeat : (u : Term) (n : ℤ) → u ≡ under t → v.Repeat n ≡ get_or nodes t.place v.Empty → Comes nodes u k x
+  pub in_repeat : (u : Term) (n : ℤ) → u ≡ under t → v.Repeat n ≡ get_or nodes t.place v.Empty → Comes programs nodes u k x
   in_repeat u n at here =
       let o = listed (S.repeat n) here in
       let ps = o.parts in
-      let body : Comes nodes (under t) k x = record {
+      let body : Comes programs nodes (under t) k x = record {
         expr = only ps;
         begins = part_begins nodes (t.place + 1) ps o.rest o.stand (and_parts true (textuals ps) o.plain).1;
-        is = part_run ps t.index ∙ sym (at_replicate (natural n) j (runs programs ps t.index).0 (idle programs k) o.within) ∙ o.is;
+        is = part_run programs ps t.index ∙ sym (at_replicate (natural n) j (runs programs ps t.index).0 (idle programs k) o.within) ∙ o.is;
       } in
-      subst (λ w. Comes nodes w k x) (sym at) body
+      subst (λ w. Comes programs nodes w k x) (sym at) body
 
-  pub in_tabulate : (u : Term) (n : ℤ) → u ≡ under t → v.Tabulate n ≡ get_or nodes t.place v.Empty → (i : ℕ) → i ≡ j → Comes nodes (record { place = u.place; index = i }) k x
+  pub in_tabulate : (u : Term) (n : ℤ) → u ≡ under t → v.Tabulate n ≡ get_or nodes t.place v.Empty → (i : ℕ) → i ≡ j → Comes programs nodes (record { place = u.place; index = i }) k x
   in_tabulate u n at here i same =
       let o = listed (S.tab n) here in
       let ps = o.parts in
@@ -164,7 +168,7 @@ module _ (nodes : List Node) (t : Term) (j : ℕ) (k : Kind) (x : Val Solid k) (
       record {
         expr = only ps;
         begins = subst (λ w. Begins nodes w.place (only ps)) (sym at) (part_begins nodes (t.place + 1) ps o.rest o.stand (and_parts true (textuals ps) o.plain).1);
-        is = part_run ps i ∙ ap f (same ∙ omega arith) ∙ sym (at_from f 0 (natural n) j (idle programs k) o.within) ∙ o.is;
+        is = part_run programs ps i ∙ ap f (same ∙ omega arith) ∙ sym (at_from f 0 (natural n) j (idle programs k) o.within) ∙ o.is;
       }
 
   -- an index is below its loop's count
@@ -181,7 +185,7 @@ module _ (nodes : List Node) (t : Term) (j : ℕ) (k : Kind) (x : Val Solid k) (
       ap (λ w. get_or (run programs p.left w.index ++ run programs p.right w.index) j (idle programs k)) at
       ∙ ap (λ (ps : Exprs (many k ∷ many k ∷ [])). get_or ((runs programs ps t.index).0 ++ (runs programs ps t.index).1.0) j (idle programs k)) (sym p.is) ∙ o.is
 
-  pub in_left : (u : Term) (m : Measure) → u ≡ under t → v.Concat ≡ get_or nodes t.place v.Empty → TellsHere nodes u.place m → j < m.elements → Holds nodes u j k x
+  pub in_left : (u : Term) (m : Measure) → u ≡ under t → v.Concat ≡ get_or nodes t.place v.Empty → TellsHere nodes u.place m → j < m.elements → Holds programs nodes u j k x
   in_left u m at here told lt =
       let o = listed S.concat here in
       let p = halves u at o in
@@ -192,7 +196,7 @@ module _ (nodes : List Node) (t : Term) (j : ℕ) (k : Kind) (x : Val Solid k) (
       record { list = p.left; begins = left_begins p; within = omega arith; is = sym (at_front a b j (idle programs k) (omega arith)) ∙ joined u at o p }
 
   pub in_right : (u w : Term) (m : Measure) → u ≡ under t → v.Concat ≡ get_or nodes t.place v.Empty → TellsHere nodes u.place m → Follows nodes u w → w.index ≡ u.index → m.elements ≤ j
-      → Holds nodes w (j - m.elements) k x
+      → Holds programs nodes w (j - m.elements) k x
   unfolding counts
   in_right u w m at here told after same ge =
       let o = listed S.concat here in
@@ -212,14 +216,14 @@ module _ (nodes : List Node) (t : Term) (j : ℕ) (k : Kind) (x : Val Solid k) (
       }
 
 -- ---- a list of solids as a whole
-pub list_long : (nodes : List Node) (t : Term) (m : Measure) → TellsHere nodes t.place m → (l : Expr (many solid)) → Begins nodes t.place l
-    → (count l ≡ m.elements) × (length (run programs l t.index) ≡ m.elements)
-list_long nodes t m told l b =
-    let many-told = sym (ap (λ y. y.elements) (told (many solid) l b.rest b.stands)) in
-    (many-told, length_run programs l t.index ∙ many-told)
+module _ {X : Type 0} (H : Shape X) (nodes : List Node) (t : Term) (l : Expr (many solid)) (b : Begins nodes t.place l) where
+  pub list_long : (m : Measure) → TellsHere nodes t.place m → (count l ≡ m.elements) × (length (run H l t.index) ≡ m.elements)
+  list_long m told =
+      let many-told = sym (ap (λ y. y.elements) (told (many solid) l b.rest b.stands)) in
+      (many-told, length_run H l t.index ∙ many-told)
 
-pub list_holds : (nodes : List Node) (t : Term) (l : Expr (many solid)) → Begins nodes t.place l → (j : ℕ) → j < count l → Holds nodes t j solid (get_or (run programs l t.index) j Empty)
-list_holds nodes t l b j lt = record { list = l; begins = b; within = lt; is = refl }
+  pub list_holds : (j : ℕ) → j < count l → Holds H nodes t j solid (get_or (run H l t.index) j H.empty)
+  list_holds j lt = record { list = l; begins = b; within = lt; is = refl }
 
 -- ---- what no list is
 pub head_here : (nodes : List Node) (place : ℕ) {s : Sort} (h : Head s) (es : Exprs (arity h)) → Begins nodes place (node h es) → get_or nodes place v.Empty ≡ node_of h
@@ -243,8 +247,8 @@ pub no_vectors : (nodes : List Node) (place : ℕ) (e : Expr (many vector)) → 
 no_vectors nodes place (node h es) b p here =
     false≢true (ap (λ n. sorted_on (head_at n (many vector)) (λ _. true)) (here ∙ head_here nodes place h es b) ∙ ap (λ o. sorted_on o (λ _. true)) (headed h))
 
-pub in_map2 : (nodes : List Node) (t : Term) (j : ℕ) (x : Solid) → Holds nodes t j solid x → (u w : Term) (p : Placement) → u ≡ under t → v.Map2 p ≡ get_or nodes t.place v.Empty
-    → Follows nodes u w → w.index ≡ u.index → Maps nodes u w j (programs.place p) x
+pub in_map2 : (nodes : List Node) (t : Term) (j : ℕ) (x : Solid) → Holds programs nodes t j solid x → (u w : Term) (p : Placement) → u ≡ under t → v.Map2 p ≡ get_or nodes t.place v.Empty
+    → Follows nodes u w → w.index ≡ u.index → Maps programs nodes u w j (programs.place p) x
 unfolding runs counts
 in_map2 nodes t j x has u w q at here after same =
     let o = listed nodes t j solid x has (S.map2 q) here in
@@ -266,7 +270,7 @@ in_map2 nodes t j x has u w q at here after same =
     }
 
 -- ---- vectors
-pub is_vector : (nodes : List Node) (t : Term) (x : Triple) → Comes nodes t vector x → (a : Linear) → v.Vector a ≡ get_or nodes t.place v.Empty → at t.index a ≡ x
+pub is_vector : (nodes : List Node) (t : Term) (x : Triple) → Comes programs nodes t vector x → (a : Linear) → v.Vector a ≡ get_or nodes t.place v.Empty → at t.index a ≡ x
 unfolding run
 is_vector nodes t x comes a here =
     let o = opened nodes t.place (S.vec a) comes.expr here comes.begins in
@@ -277,7 +281,7 @@ pub no_vector : (nodes : List Node) (place : ℕ) (e : Expr (one vector)) → Be
 no_vector nodes place (node (S.vec a) es) b n here f = f a (here ∙ head_here nodes place (S.vec a) es b)
 
 -- an element of a list of vectors is one term
-pub whole_vector : (nodes : List Node) (r : Item) (x : Triple) → IsItem nodes r vector x → ((t : Term) → r ≡ Whole t → ⊥) → ⊥
-whole_vector nodes Absent x is f = is
-whole_vector nodes (Whole t) x is f = f t refl
-whole_vector nodes (Placed p both) x is f = is
+pub whole_vector : (nodes : List Node) (r : Option Item) (x : Triple) → IsItem programs nodes r vector x → ((t : Term) → r ≡ Some (Whole t) → ⊥) → ⊥
+whole_vector nodes None x is f = is
+whole_vector nodes (Some (Whole t)) x is f = f t refl
+whole_vector nodes (Some (Placed p both)) x is f = is
