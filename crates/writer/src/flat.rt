@@ -11,7 +11,7 @@ ghost use Rattle.writer.specs.Writing.{Wrote};
 ghost use Rattle.program.specs.Elements.{nodes_of};
 ghost use Rattle.writer.specs.Unrolls.{placing, joining, SolidPut, ItemPut, UnionPut, SaysUnrolling};
 
-use crate::sink::Sink;
+use crate::sink::{Sink, fill};
 use crate::writer::{Unwritten, put_open};
 use model::{Node, Operator, Placement, Wide, Word};
 use program::{Item, Layout, Part, Term};
@@ -127,6 +127,12 @@ fn put_item(sink: &mut Sink, layout: &Layout, list: Term, k: u128)
     }
 }
 
+fn put_unrolling(sink: &mut Sink, part: &Part)
+    ensures { Puts (text_of (unrolling (held part.now.layout.table))) sink.old sink.new }
+{
+    put_solid(sink, &part.layout, Term { place: 0, index: 0 });
+}
+
 /// Writes the text of the unrolling of a part's program at the buffer's start, and answers its
 /// length. The unrolling is the program without lists, and has the same values at every point. A
 /// buffer that is shorter than the text stays wholly unchanged; else the bytes past the text stay.
@@ -135,15 +141,5 @@ pub fn unroll(part: &Part, out: &mut [u8]) -> Result<usize, Unwritten>
     ensures keeps { UnrolledValues Bool }
     ensures says { SaysUnrolling (held part.now.layout.table) result out.new }
 {
-    let program = Term { place: 0, index: 0 };
-    // Over no buffer the text is only measured.
-    let mut nothing: [u8; 0] = [];
-    let mut measured = Sink::new(&mut nothing);
-    put_solid(&mut measured, &part.layout, program);
-    if out.len() < measured.end {
-        return Err(Unwritten::ShortBuffer);
-    }
-    let mut sink = Sink::new(out);
-    put_solid(&mut sink, &part.layout, program);
-    Ok(sink.end)
+    fill(out, |sink| put_unrolling(sink, part))
 }

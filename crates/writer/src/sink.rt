@@ -1,6 +1,11 @@
 // A buffer to write into. Nothing asks for memory, so a text that is too long is cut off and counted.
-ghost use Rattle.std.specs.Prelude.{◌≡◌, [], ◌∷◌};
+ghost use Rattle.std.specs.Prelude.{◌≡◌, ℕ, List, [], ◌∷◌};
+ghost use Rattle.std.specs.Borrow.{MutBor};
+ghost use Rattle.writer.specs.declared.sink.Sink.{Sink};
 ghost use Rattle.writer.specs.Putting.{Puts};
+ghost use Rattle.writer.specs.Writing.{Wrote};
+
+use crate::writer::Unwritten;
 
 /// A buffer that is filled from its start; bytes past its end are only counted.
 #[derive(Drop)]
@@ -35,4 +40,24 @@ impl<'a> Sink<'a> {
             self.byte(*byte);
         }
     }
+}
+
+/// Fills a buffer with what `put` puts, and answers its length. A buffer that is too short stays
+/// wholly unchanged.
+pub fn fill<F: Fn(&mut Sink)>(out: &mut [u8], put: F) -> Result<usize, Unwritten>
+    requires { F.IsAlwaysCallable put }
+    ensures { (text : List ℕ)
+        → ((s t : MutBor Sink) → F.post put s tt t → Puts text s.now t.now)
+        → Wrote text out.old result out.new }
+{
+    // Over no buffer the text is only measured.
+    let mut nothing: [u8; 0] = [];
+    let mut measured = Sink::new(&mut nothing);
+    put(&mut measured);
+    if out.len() < measured.end {
+        return Err(Unwritten::ShortBuffer);
+    }
+    let mut sink = Sink::new(out);
+    put(&mut sink);
+    Ok(sink.end)
 }

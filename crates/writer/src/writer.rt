@@ -7,7 +7,7 @@ ghost use Rattle.model.specs.Spelling.{spells, text_of, opening_text, closing_te
 ghost use Rattle.writer.specs.Putting.{Puts};
 ghost use Rattle.writer.specs.Writing.{number_of, Wrote, Measured, Short, ReadsBack, TermPut, PartsPut};
 
-use crate::sink::Sink;
+use crate::sink::{Sink, fill};
 use model::{Linear, Node, Table, Word};
 
 /// Why a program was not written.
@@ -130,6 +130,12 @@ fn put_parts(sink: &mut Sink, nodes: &[Node], place: usize, count: usize) -> usi
     next
 }
 
+fn put_program(sink: &mut Sink, table: &Table)
+    ensures { Puts (text_of (held table.now)) sink.old sink.new }
+{
+    put_term(sink, table.nodes.as_slice(), 0);
+}
+
 /// Writes the text of the program held at the buffer's start, and answers its length. A buffer that
 /// is shorter than the text stays wholly unchanged; else the bytes past the text stay.
 pub fn write(table: &Table, out: &mut [u8]) -> Result<usize, Unwritten>
@@ -138,15 +144,5 @@ pub fn write(table: &Table, out: &mut [u8]) -> Result<usize, Unwritten>
     ensures short { Short (held table.now) }
     ensures reads_back { ReadsBack (held table.now) result out.new }
 {
-    let nodes = table.nodes.as_slice();
-    // Over no buffer the text is only measured.
-    let mut nothing: [u8; 0] = [];
-    let mut measured = Sink::new(&mut nothing);
-    put_term(&mut measured, nodes, 0);
-    if out.len() < measured.end {
-        return Err(Unwritten::ShortBuffer);
-    }
-    let mut sink = Sink::new(out);
-    put_term(&mut sink, nodes, 0);
-    Ok(sink.end)
+    fill(out, |sink| put_program(sink, table))
 }
