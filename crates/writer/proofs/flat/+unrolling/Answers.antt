@@ -10,7 +10,7 @@ use Rattle.model.specs.Unrolling.{programs}
 use Rattle.model.specs.Axes.{exact}
 use Rattle.program.specs.Elements.{nodes_of}
 use Rattle.writer.specs.Unrolls.{placing}
-use Rattle.writer.proofs.Puts.{puts_none, puts_then, puts_as}
+use Rattle.writer.proofs.Puts.{puts_then, puts_as}
 use Rattle.program.proofs.Items.{first_part, item_is, list_long, list_holds}
 use Rattle.program.proofs.Solids.{is_empty, is_primitive, is_placed, is_joined, is_folded, no_solid}
 use Rattle.writer.proofs.Unions.{text_placed, text_joined, text_empty, unions, unions_more, text_union}
@@ -30,26 +30,6 @@ put_item-returns-in-Some-Placed t c x has =
     let by = c.vector_item.ensures m.by m.vectors in
     puts_as (ap (λ q. placing p q ++ (text_of m.of ++ (41 ∷ []))) by ∙ text_placed p m.by m.of ∙ ap text_of m.is)
     (puts_then c.put_placing.ensures (puts_then (c.put_item.ensures m.of m.solids) c.byte.ensures))
-
-pub put_solid-put_solid-requires : goal.put_solid-put_solid-requires
-put_solid-put_solid-requires t c =
-    let first = first_part c.args.layout.now c.args.term c.part-first.result (v.Place _ _) c.in-Place.ensures (omega arith) c.part-first.ensures in
-    (omega (arith, first.0, ap (λ u. u.place) first.1), tt)
-
-pub put_solid-put_solid-requires-in-Join : goal.put_solid-put_solid-requires-in-Join
-put_solid-put_solid-requires-in-Join t c =
-    let first = first_part c.args.layout.now c.args.term c.part-first.result (v.Join _) c.in-Join.ensures (omega arith) c.part-first.ensures in
-    (omega (arith, first.0, ap (λ u. u.place) first.1), tt)
-
-pub put_solid-put_solid-requires-in-Join-2 : goal.put_solid-put_solid-requires-in-Join-2
-put_solid-put_solid-requires-in-Join-2 t c =
-    let first = first_part c.args.layout.now c.args.term c.part-first.result (v.Join _) c.in-Join.ensures (omega arith) c.part-first.ensures in
-    (omega (arith, first.0, ap (λ u. u.place) first.1, c.next.ensures.ahead), tt)
-
-pub put_solid-put_union-requires : goal.put_solid-put_union-requires
-put_solid-put_union-requires t c =
-    let first = first_part c.args.layout.now c.args.term c.part-first.result v.Fold c.in-Fold.ensures (omega arith) c.part-first.ensures in
-    (omega (arith, first.0, ap (λ u. u.place) first.1), tt)
 
 pub put_solid-returns-in-Empty : goal.put_solid-returns-in-Empty
 put_solid-returns-in-Empty t c x comes =
@@ -101,9 +81,6 @@ put_union-returns-then-count-eq0 t c l begins =
     let long = list_long programs (nodes_of c.args.layout.now) c.args.list l begins c.measure_at-count.result c.measure_at-count.ensures.tells in
     let nil = nil_from_length (run programs l c.args.list.index) (omega (arith, long.1)) in
     puts_as (text_empty ∙ ap (λ xs. text_of (union_of programs xs)) (sym nil)) c.bytes.ensures
-
-pub put_union-loop-k-init : goal.put_union-loop-k-init
-put_union-loop-k-init t c l begins = puts_none c.args.sink.now
 
 pub put_union-loop-k-preserved : goal.put_union-loop-k-preserved
 put_union-loop-k-preserved t c l begins =

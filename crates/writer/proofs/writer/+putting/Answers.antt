@@ -20,13 +20,10 @@ put_parts-returns-then-next-nodes-clause-puts t c =
 pub put_parts-returns-clause-puts : goal.put_parts-returns-clause-puts
 put_parts-returns-clause-puts t c = c.loop.invariant.rest c.loop.next c.loop.sink (parts_none c.args.nodes.now c.loop.next _ c.loop.sink (inl (omega arith)))
 
-pub put_term-returns : goal.put_term-returns
-put_term-returns t c =
+pub put_term-returns-clause-puts : goal.put_term-returns-clause-puts
+put_term-returns-clause-puts t c =
     let nodes = c.args.nodes.now in
     let place = c.args.place in
     let short : length nodes < 2 ^ 63 = search rules in
-    record {
-      ahead = omega (arith, c.put_parts-next.ensures.ahead);
-      puts = term_put nodes place c.put_parts-next.result (get_or nodes place Empty) short (drop_more nodes place Empty c.requires)
-          c.parts.ensures c.put_opening.ensures c.put_parts-next.ensures.puts (puts_as c.closing.ensures c.bytes.ensures);
-    }
+    term_put nodes place c.put_parts-next.result (get_or nodes place Empty) short (drop_more nodes place Empty c.requires)
+    c.parts.ensures c.put_opening.ensures c.put_parts-next.ensures.puts (puts_as c.closing.ensures c.bytes.ensures)
