@@ -49,6 +49,7 @@ fn put_placing(sink: &mut Sink, placement: Placement, v: Wide)
 }
 
 // What stands before the first of two solids.
+#[tactic(auto, using(crate::proofs::Puts::puts_then))]
 fn put_joining(sink: &mut Sink, operator: Operator)
     ensures { Puts (joining operator) sink.old sink.new }
 {
