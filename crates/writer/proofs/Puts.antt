@@ -1,24 +1,10 @@
 -- One write after another. Assumes nothing.
-use Rattle.std.proofs.Common.{◌≡◌, ℕ, ◌+◌, ◌-◌, ◌^◌, ◌<◌, ◌≤◌, min, List, [], ◌∷◌, ◌++◌, length, take, drop, set, sym, refl, ap, ◌∙◌, subst, append_assoc, append-nil, add-zero, add-one, arith, length-append, length-set, take-append-drop, take-suc-set}
-use Rattle.std.proofs.lemmas.List.{drop-drop, drop-set-lt}
-use Rattle.writer.specs.Putting.{Stand, Put}
+use Rattle.std.proofs.Common.{◌≡◌, ℕ, ◌+◌, ◌-◌, ◌^◌, ◌<◌, ◌≤◌, min, List, [], ◌++◌, length, take, drop, sym, refl, ap, ◌∙◌, subst, append_assoc, append-nil, add-zero, arith, length-append, take-append-drop}
+use Rattle.std.proofs.lemmas.List.{drop-drop}
+use Rattle.writer.specs.declared.sink.Sink.{Sink}
+use Rattle.writer.specs.Putting.{Stand, Put, Puts}
 
--- a byte within the buffer
-pub put_within : {old new : List ℕ} {i b e : ℕ} → i < length old → new ≡ set old i b → e ≡ min (i + 1) (2 ^ 64 - 1) → Put i (b ∷ []) old e new
-put_within {old} {new} {i} {b} {e} h is p = record {
-  end = p;
-  size = ap length is ∙ length-set old i b;
-  whole = λ _ _. record {
-    front = ap (take (i + 1)) is ∙ (rw add-one (take-suc-set old i b h));
-    back = ap (drop (i + 1)) is ∙ drop-set-lt (i + 1) old i b (omega arith);
-  };
-}
-
--- a byte past its end
-pub put_past : {old new : List ℕ} {i b e : ℕ} → length old ≤ i → new ≡ old → e ≡ min (i + 1) (2 ^ 64 - 1) → Put i (b ∷ []) old e new
-put_past {old} {new} {i} {b} {e} h is p = record { end = p; size = ap length is; whole = λ l _. absurd (omega arith) }
-
-pub put_none : (old : List ℕ) (i : ℕ) → i < 2 ^ 64 → Put i [] old i old
+put_none : (old : List ℕ) (i : ℕ) → i < 2 ^ 64 → Put i [] old i old
 put_none old i h = record {
   end = omega arith;
   size = refl;
@@ -34,7 +20,7 @@ stand_then {i} {xs} {ys} {old} {mid} {new} {e} at p q =
           ∙ ap (drop (length ys)) p.back ∙ drop-drop (length ys) (i + length xs) old ∙ ap (λ n. drop n old) (omega arith);
     }
 
-pub put_then : {i : ℕ} {xs ys old mid new : List ℕ} {e e' : ℕ} → Put i xs old e mid → Put e ys mid e' new → Put i (xs ++ ys) old e' new
+put_then : {i : ℕ} {xs ys old mid new : List ℕ} {e e' : ℕ} → Put i xs old e mid → Put e ys mid e' new → Put i (xs ++ ys) old e' new
 put_then {i} {xs} {ys} {old} {mid} {new} {e} {e'} p q =
     let len = length-append xs ys in
     record {
@@ -45,13 +31,31 @@ put_then {i} {xs} {ys} {old} {mid} {new} {e} {e'} p q =
           stand_then at (p.whole (omega arith) s) (q.whole (omega (arith, p.size)) (omega (arith, p.size)));
     }
 
--- a whole text from the buffer's start
-pub put_all : {xs old new : List ℕ} {e : ℕ} → Put 0 xs old e new → length xs ≤ length old → length old < 2 ^ 63 → (e ≡ length xs) × (new ≡ xs ++ drop e old)
-put_all {xs} {old} {new} {e} p l s =
-    let at : e ≡ 0 + length xs = omega (arith, p.end) in
-    let q = p.whole (omega arith) s in
-    (omega (arith, p.end), sym (take-append-drop (0 + length xs) new) ∙ (λ k. q.front k ++ q.back k) ∙ ap (λ n. xs ++ drop n old) (sym at))
+-- nothing
+pub puts_none : (s : Sink) → Puts [] s s
+puts_none s = record { same = refl; put = put_none s.out.now s.end }
+
+-- one text after another
+pub puts_then : {xs ys : List ℕ} {s t u : Sink} → Puts xs s t → Puts ys t u → Puts (xs ++ ys) s u
+puts_then p q = record { same = q.same ∙ p.same; put = λ h. let first = p.put h in put_then first (q.put (omega (arith, first.end))) }
 
 -- the same bytes, named otherwise
-pub put_as : {i : ℕ} {xs ys old new : List ℕ} {e : ℕ} → xs ≡ ys → Put i xs old e new → Put i ys old e new
-put_as {i} {xs} {ys} {old} {new} {e} q p = let P : List ℕ → Type 0 = λ l. Put i l old e new in subst P q p
+pub puts_as : {xs ys : List ℕ} {s t : Sink} → xs ≡ ys → Puts xs s t → Puts ys s t
+puts_as {xs} {ys} {s} {t} e p = let P : List ℕ → Type 0 = λ l. Puts l s t in subst P e p
+
+-- a whole text in a fresh sink, whose buffer has room for it, is what the buffer then begins with
+pub filled : {xs old new : List ℕ} (s t : Sink) → Puts xs s t → s.end ≡ 0 → s.out.now ≡ old → new ≡ t.out.now → length xs ≤ length old → length old < 2 ^ 63
+    → (t.end ≡ length xs) × (new ≡ xs ++ drop t.end old)
+filled {xs} {old} {new} s t p start from to l small =
+    let put = p.put (omega arith) in
+    let long = ap length from in
+    let at : t.end ≡ s.end + length xs = omega (arith, put.end) in
+    let far : s.end + length xs ≡ t.end = sym at in
+    let stand = put.whole (omega arith) (omega arith) in
+    let front : take t.end new ≡ xs = (λ k. take (at k) (to k)) ∙ stand.front ∙ ap (λ n. take n s.out.now ++ xs) start in
+    let back : drop t.end new ≡ drop t.end old = (λ k. drop (at k) (to k)) ∙ stand.back ∙ (λ k. drop (far k) (from k)) in
+    (omega (arith, put.end), sym (take-append-drop t.end new) ∙ (λ k. front k ++ back k))
+
+-- a sink over no buffer counts the text
+pub counted : {xs : List ℕ} (s t : Sink) → Puts xs s t → s.end ≡ 0 → t.end ≡ min (length xs) (2 ^ 64 - 1)
+counted s t p start = let put = p.put (omega arith) in omega (arith, put.end)

@@ -1,6 +1,8 @@
 -- The text of a union, and of solids that are placed or joined. Assumes nothing.
-use Rattle.std.proofs.Common.{◌≡◌, ℕ, zero, suc, ◌+◌, ◌<◌, List, [], ◌∷◌, ◌++◌, length, get_or, replicate, codes, sym, ap, ◌∙◌, append_assoc, append-nil, arith}
-use Rattle.std.proofs.lemmas.List.{replicate_more}
+use Rattle.std.proofs.Common.{◌≡◌, ℕ, zero, suc, ◌+◌, ◌<◌, List, [], ◌∷◌, ◌++◌, length, get_or, take, replicate, codes, sym, refl, ap, ◌∙◌, append_assoc, append-nil, arith}
+use Rattle.std.specs.List.{flat_map}
+use Rattle.std.proofs.lemmas.List.{replicate_more, take_more}
+use Rattle.std.proofs.lemmas.Grind.{flat_map-append}
 use Rattle.model.specs.declared.node.Operator.{Operator}
 use Rattle.model.specs.declared.node.Operator.TheVariants.{Union}
 use Rattle.model.specs.declared.node.Placement.{Placement}
@@ -27,21 +29,17 @@ text_joined o a b =
     ∙ ap (λ l. t ++ (32 ∷ l)) (ap (λ l. text_of a ++ (32 ∷ (l ++ (41 ∷ [])))) (sym (append-nil (text_of b))) ∙ sym (append_assoc (text_of a) (32 ∷ (text_of b ++ [])) (41 ∷ [])))
     ∙ sym (text_node (S.join o) (more a (more b none)))
 
--- the first n solids, each with the Union before it
+-- a solid that is not the last, with the Union before it
+abbrev pub before : Solid → List ℕ
+before x = joining Union ++ (text_of x ++ (32 ∷ []))
+
+-- the first n solids
 abbrev pub unions : ℕ → List Solid → List ℕ
-unions zero xs = []
-unions (suc n) [] = []
-unions (suc n) (x ∷ xs) = (joining Union ++ (text_of x ++ (32 ∷ []))) ++ unions n xs
+unions n xs = flat_map before (take n xs)
 
 -- one more
-pub unions_more : (n : ℕ) (xs : List Solid) → n < length xs → unions n xs ++ (joining Union ++ (text_of (get_or xs n Empty) ++ (32 ∷ []))) ≡ unions (n + 1) xs
-unions_more zero [] h = absurd (omega arith)
-unions_more (suc n) [] h = absurd (omega arith)
-unions_more zero (x ∷ xs) h = sym (append-nil _)
-unions_more (suc n) (x ∷ xs) h =
-    let front = joining Union ++ (text_of x ++ (32 ∷ [])) in
-    let count : suc (n + 1) ≡ suc n + 1 = omega arith in
-    append_assoc front (unions n xs) _ ∙ ap (λ l. front ++ l) (unions_more n xs (omega arith)) ∙ ap (λ m. unions m (x ∷ xs)) count
+pub unions_more : (n : ℕ) (xs : List Solid) → n < length xs → unions n xs ++ before (get_or xs n Empty) ≡ unions (n + 1) xs
+unions_more n xs h = rw (take_more xs n Empty h, flat_map-append, append-nil) refl
 
 regroup : (j t u g c : List ℕ) → ((j ++ (t ++ (32 ∷ []))) ++ u) ++ (g ++ (c ++ (41 ∷ []))) ≡ j ++ (t ++ (32 ∷ ((u ++ (g ++ c)) ++ (41 ∷ []))))
 regroup j t u g c = simp append_assoc
@@ -54,7 +52,7 @@ text_union zero (x ∷ []) h = append-nil (text_of x)
 text_union zero (x ∷ y ∷ xs) h = absurd (omega arith)
 text_union (suc n) (x ∷ []) h = absurd (omega arith)
 text_union (suc n) (x ∷ y ∷ xs) h =
-    let front = (joining Union ++ (text_of x ++ (32 ∷ []))) ++ unions n (y ∷ xs) in
+    let front = before x ++ unions n (y ∷ xs) in
     let g = text_of (get_or (y ∷ xs) n Empty) in
     let count : suc n ≡ n + 1 = omega arith in
     let shorter : length (y ∷ xs) ≡ suc n = omega arith in

@@ -1,7 +1,6 @@
 -- What putting bytes into a buffer leaves there. Assumes nothing.
-use Rattle.std.specs.Prelude.{◌≡◌, ℕ, ◌+◌, ◌-◌, ◌^◌, ◌<◌, ◌≤◌, min, cond, List, ◌++◌, length, take, drop, ℤ}
-use Rattle.std.specs.Fmt.{signed_decimal}
-use Rattle.model.specs.Bytes.{is_zero, change}
+use Rattle.std.specs.Prelude.{◌≡◌, ℕ, ◌+◌, ◌-◌, ◌^◌, ◌<◌, ◌≤◌, min, List, ◌++◌, length, take, drop}
+use Rattle.writer.specs.declared.sink.Sink.{Sink}
 
 -- the bytes xs stand at byte i, and what lies before and after them is as it was
 pub record Stand (i : ℕ) (xs old new : List ℕ) : Type 0 where
@@ -14,6 +13,7 @@ pub record Put (i : ℕ) (xs old : List ℕ) (e : ℕ) (new : List ℕ) : Type 0
   pub size : length new ≡ length old
   pub whole : i + length xs ≤ length old → length old < 2 ^ 63 → Stand i xs old new
 
--- a number with a slope, up to its last i
-abbrev pub up_to_index : ℤ → ℤ → List ℕ
-up_to_index a c = cond (is_zero a) (signed_decimal c) (signed_decimal a ++ change c)
+-- the bytes xs were put into the sink s, which is t then, over the same buffer
+pub record Puts (xs : List ℕ) (s t : Sink) : Type 0 where
+  pub same : t.out.ghost_name ≡ s.out.ghost_name
+  pub put : s.end < 2 ^ 64 → Put s.end xs s.out.now t.end t.out.now

@@ -13,9 +13,10 @@ use Rattle.model.specs.Tokens.{tokens}
 use Rattle.model.specs.Feed.{said, Clean}
 use Rattle.model.specs.Texts.{feed_of}
 use Rattle.model.specs.Unrolling.{programs, unroll}
+use Rattle.writer.specs.declared.sink.Sink.{Sink}
 use Rattle.writer.specs.declared.writer.Unwritten.{Unwritten}
 use Rattle.program.specs.declared.element.Term.{Term}
-use Rattle.writer.specs.Putting.{Put}
+use Rattle.writer.specs.Putting.{Puts}
 use Rattle.program.specs.Elements.{Begins, Comes, Holds}
 
 -- what is written before a solid that is placed
@@ -27,16 +28,16 @@ abbrev pub joining : Operator → List ℕ
 joining o = opening_text (v.Join o) ++ (32 ∷ [])
 
 -- what the term comes to was put
-abbrev pub SolidPut : List Node → Term → ℕ → List ℕ → ℕ → List ℕ → Type 0
-SolidPut nodes t i old e new = (x : Solid) → Comes programs nodes t solid x → Put i (text_of x) old e new
+abbrev pub SolidPut : List Node → Term → Sink → Sink → Type 0
+SolidPut nodes term s t = (x : Solid) → Comes programs nodes term solid x → Puts (text_of x) s t
 
 -- what the element j of a list comes to was put
-abbrev pub ItemPut : List Node → Term → ℕ → ℕ → List ℕ → ℕ → List ℕ → Type 0
-ItemPut nodes t j i old e new = (x : Solid) → Holds programs nodes t j solid x → Put i (text_of x) old e new
+abbrev pub ItemPut : List Node → Term → ℕ → Sink → Sink → Type 0
+ItemPut nodes list j s t = (x : Solid) → Holds programs nodes list j solid x → Puts (text_of x) s t
 
 -- the union of a list's elements was put
-abbrev pub UnionPut : List Node → Term → ℕ → List ℕ → ℕ → List ℕ → Type 0
-UnionPut nodes t i old e new = (l : Expr (many solid)) → Begins nodes t.place l → Put i (text_of (union_of programs (run programs l t.index))) old e new
+abbrev pub UnionPut : List Node → Term → Sink → Sink → Type 0
+UnionPut nodes list s t = (l : Expr (many solid)) → Begins nodes list.place l → Puts (text_of (union_of programs (run programs l list.index))) s t
 
 -- what was written reads as the tokens of the unrolling, and as no others
 abbrev pub SaysUnrolling : Solid → Result ℕ Unwritten → List ℕ → Type 0

@@ -6,10 +6,10 @@ use Rattle.model.specs.Syntax.{Sort, Expr, Exprs, Solid, textual, depth}
 use Rattle.model.specs.Nodes.{flatten, flattens}
 use Rattle.model.specs.Spelling.{text_of, part_texts, own_length, SevenDigits}
 use Rattle.model.specs.Texts.{Accepts}
-use Rattle.writer.specs.declared.writer.Spot.{Spot}
+use Rattle.writer.specs.declared.sink.Sink.{Sink}
 use Rattle.writer.specs.declared.writer.Unwritten.{Unwritten}
 use Rattle.writer.specs.declared.writer.Unwritten.TheVariants.{ShortBuffer}
-use Rattle.writer.specs.Putting.{Put}
+use Rattle.writer.specs.Putting.{Puts}
 
 -- the number by which a caller is told why nothing was written
 abbrev pub number_of : Unwritten → ℕ
@@ -32,14 +32,14 @@ Short e = SevenDigits e → length (text_of e) ≤ most_bytes
 abbrev pub ReadsBack : Solid → Result ℕ Unwritten → List ℕ → Type 0
 ReadsBack e r new = IfOk r (λ n. textual e ≡ true → depth e ≤ most_levels → SevenDigits e → Accepts (take n new) e)
 
--- the expression whose nodes begin at from was put, and r is the spot after it
-abbrev pub TermPut : List Node → Spot → List ℕ → Spot → List ℕ → Type 0
-TermPut nodes from old r new =
-    (s : Sort) (e : Expr s) (rest : List Node) → drop from.place nodes ≡ flatten e ++ rest
-    → (drop r.place nodes ≡ rest) × Put from.at (text_of e) old r.at new
+-- the expression whose nodes begin at a place was put, and r is the place after it
+abbrev pub TermPut : List Node → ℕ → Sink → ℕ → Sink → Type 0
+TermPut nodes place s r t =
+    (k : Sort) (e : Expr k) (rest : List Node) → drop place nodes ≡ flatten e ++ rest
+    → (drop r nodes ≡ rest) × Puts (text_of e) s t
 
 -- so many expressions were put, each after a space
-abbrev pub PartsPut : List Node → Spot → ℕ → List ℕ → Spot → List ℕ → Type 0
-PartsPut nodes from n old r new =
-    (ss : List Sort) (es : Exprs ss) (rest : List Node) → length ss ≡ n → drop from.place nodes ≡ flattens es ++ rest
-    → (drop r.place nodes ≡ rest) × Put from.at (part_texts es) old r.at new
+abbrev pub PartsPut : List Node → ℕ → ℕ → Sink → ℕ → Sink → Type 0
+PartsPut nodes place n s r t =
+    (ks : List Sort) (es : Exprs ks) (rest : List Node) → length ks ≡ n → drop place nodes ≡ flattens es ++ rest
+    → (drop r nodes ≡ rest) × Puts (part_texts es) s t

@@ -1,75 +1,53 @@
-// Bytes and numbers into a buffer. Bytes past the buffer's end are not put, and only counted.
-ghost use Rattle.std.specs.Prelude.{[], ◌∷◌, decimal};
-ghost use Rattle.model.specs.Bytes.{numeral, change};
+// Numbers, as a text spells them.
+ghost use Rattle.std.specs.Prelude.{decimal};
 ghost use Rattle.std.specs.Fmt.{signed_decimal};
-ghost use Rattle.writer.specs.Putting.{Put, up_to_index};
+ghost use Rattle.model.specs.Bytes.{numeral, change};
+ghost use Rattle.writer.specs.Putting.{Puts};
 
-pub fn put_byte(out: &mut [u8], at: usize, byte: u8) -> usize
-    ensures { Put at (byte ∷ []) out.old result out.new }
-{
-    if at < out.len() {
-        out[at] = byte;
+use crate::sink::Sink;
+use model::Numeral;
+
+// What std writes of a number asks for memory, or may fail, so the digits are put here.
+impl Sink<'_> {
+    pub fn decimal(&mut self, n: u128)
+        ensures { Puts (decimal n) self.old self.new }
+    {
+        if n >= 10 {
+            self.decimal(n / 10);
+        }
+        self.byte(b'0' + (n % 10) as u8);
     }
-    at.saturating_add(1)
-}
 
-pub fn put_bytes(out: &mut [u8], at: usize, bytes: &[u8]) -> usize
-    ensures { Put at bytes.now out.old result out.new }
-{
-    let mut next = at;
-    for byte in bytes {
-        next = put_byte(out, next, *byte);
+    pub fn signed(&mut self, n: i128)
+        ensures { Puts (signed_decimal n) self.old self.new }
+    {
+        if n < 0 {
+            self.byte(b'-');
+        }
+        self.decimal(n.unsigned_abs());
     }
-    next
-}
 
-pub fn put_decimal(out: &mut [u8], at: usize, n: u128) -> usize
-    ensures { Put at (decimal n) out.old result out.new }
-{
-    if n < 10 {
-        return put_byte(out, at, n as u8 + b'0');
+    // A number after another one, with its sign in front.
+    fn change(&mut self, slope: i64)
+        ensures { Puts (change slope) self.old self.new }
+    {
+        let sign = if slope < 0 { b'-' } else { b'+' };
+        self.byte(sign);
+        self.decimal(u128::from(slope.unsigned_abs()));
     }
-    let next = put_decimal(out, at, n / 10);
-    put_byte(out, next, (n % 10) as u8 + b'0')
-}
 
-pub fn put_signed(out: &mut [u8], at: usize, n: i128) -> usize
-    ensures { Put at (signed_decimal n) out.old result out.new }
-{
-    let size = n.unsigned_abs();
-    if n >= 0 {
-        return put_decimal(out, at, size);
+    pub fn number(&mut self, n: Numeral)
+        ensures { Puts (numeral n.constant n.slope) self.old self.new }
+    {
+        if n.slope == 0 {
+            return self.signed(i128::from(n.constant));
+        }
+        if n.constant == 0 {
+            self.signed(i128::from(n.slope));
+        } else {
+            self.signed(i128::from(n.constant));
+            self.change(n.slope);
+        }
+        self.byte(b'i');
     }
-    let next = put_byte(out, at, b'-');
-    put_decimal(out, next, size)
-}
-
-// A number after another one, with its sign, `+` or `-`, in front.
-fn put_change(out: &mut [u8], at: usize, slope: i64) -> usize
-    ensures { Put at (change slope) out.old result out.new }
-{
-    let sign = if slope < 0 { b'-' } else { b'+' };
-    let next = put_byte(out, at, sign);
-    put_decimal(out, next, u128::from(slope.unsigned_abs()))
-}
-
-// A number with a slope, up to its last `i`: a constant of 0 is left out.
-fn put_slope(out: &mut [u8], at: usize, constant: i64, slope: i64) -> usize
-    ensures { Put at (up_to_index constant slope) out.old result out.new }
-{
-    if constant == 0 {
-        return put_signed(out, at, i128::from(slope));
-    }
-    let next = put_signed(out, at, i128::from(constant));
-    put_change(out, next, slope)
-}
-
-pub fn put_number(out: &mut [u8], at: usize, constant: i64, slope: i64) -> usize
-    ensures { Put at (numeral constant slope) out.old result out.new }
-{
-    if slope == 0 {
-        return put_signed(out, at, i128::from(constant));
-    }
-    let next = put_slope(out, at, constant, slope);
-    put_byte(out, next, b'i')
 }

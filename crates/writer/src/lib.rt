@@ -3,6 +3,7 @@
 
 mod decimal;
 mod flat;
+mod sink;
 mod writer;
 
 pub use flat::unroll;

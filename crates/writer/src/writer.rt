@@ -1,165 +1,139 @@
 // Writes the program of a table as its text.
 ghost use Rattle.std.specs.Prelude.{◌≡◌, ◌<◌, ◌≤◌, true, ◌∷◌, length};
 ghost use Rattle.model.specs.Tables.{held};
-ghost use Rattle.model.specs.Tokens.{bracket, placement_word, operator_word};
+ghost use Rattle.model.specs.Tokens.{bracket};
 ghost use Rattle.model.specs.Bytes.{spelling};
 ghost use Rattle.model.specs.Spelling.{spells, text_of, opening_text, closing_text};
-ghost use Rattle.writer.specs.Putting.{Put};
+ghost use Rattle.writer.specs.Putting.{Puts};
 ghost use Rattle.writer.specs.Writing.{number_of, Wrote, Measured, Short, ReadsBack, TermPut, PartsPut};
 
-use crate::decimal::{put_byte, put_bytes, put_decimal, put_number};
-use model::{Linear, Node, Operator, Placement, Table};
+use crate::sink::{Sink, fill};
+use model::{Linear, Node, Table, Word};
 
 /// Why a program was not written.
 #[derive(Clone, Copy, PartialEq, Eq)]
 pub enum Unwritten {
     /// The buffer is shorter than the text.
-    ShortBuffer,
+    ShortBuffer = 16,
 }
 
-impl Unwritten {
-    /// The number that a caller is told.
-    pub fn number(&self) -> u8
-        ensures { result ≡ number_of self.now }
-    {
-        match self {
-            Unwritten::ShortBuffer => 16,
-        }
+impl From<Unwritten> for u8 {
+    ghost from_gives = { λ unwritten number. number ≡ number_of unwritten };
+
+    fn from(unwritten: Unwritten) -> u8 {
+        unwritten as u8
     }
 }
 
-/// The next node to write, and where its text goes.
-#[derive(Clone, Copy)]
-struct Spot {
-    place: usize,
-    at: usize,
-}
-
-// The names of the words, as a text spells them.
-pub fn placement_name(placement: Placement) -> &'static [u8]
-    ensures { result.now ≡ spelling (placement_word placement) }
+// Not one function with the bracket of three values in an unrolling: a trait for the two kinds of
+// number would be longer than either.
+fn put_bracket(sink: &mut Sink, v: Linear)
+    ensures { Puts (spells true (bracket v)) sink.old sink.new }
 {
-    match placement {
-        Placement::Translate => b"Translate",
-        Placement::Scale => b"Scale",
-        Placement::Rotate => b"Rotate",
-    }
-}
-
-pub fn operator_name(operator: Operator) -> &'static [u8]
-    ensures { result.now ≡ spelling (operator_word operator) }
-{
-    match operator {
-        Operator::Union => b"Union",
-        Operator::Diff => b"Diff",
-        Operator::Inter => b"Inter",
-    }
-}
-
-fn put_bracket(out: &mut [u8], at: usize, v: Linear) -> usize
-    ensures { Put at (spells true (bracket v)) out.old result out.new }
-{
-    let next = put_byte(out, at, b'[');
-    let next = put_number(out, next, v.constant.x, v.slope.x);
-    let next = put_byte(out, next, b',');
-    let next = put_number(out, next, v.constant.y, v.slope.y);
-    let next = put_byte(out, next, b',');
-    let next = put_number(out, next, v.constant.z, v.slope.z);
-    put_byte(out, next, b']')
+    let [x, y, z] = v.axes();
+    sink.byte(b'[');
+    sink.number(x);
+    sink.byte(b',');
+    sink.number(y);
+    sink.byte(b',');
+    sink.number(z);
+    sink.byte(b']');
 }
 
 // A bracket and a word.
-pub fn put_open(out: &mut [u8], at: usize, word: &[u8]) -> usize
-    ensures { Put at (40 ∷ word.now) out.old result out.new }
+pub fn put_open(sink: &mut Sink, word: Word)
+    ensures { Puts (40 ∷ spelling word) sink.old sink.new }
 {
-    let next = put_byte(out, at, b'(');
-    put_bytes(out, next, word)
+    sink.byte(b'(');
+    sink.bytes(word.spelling());
 }
 
 // What stands before a node's parts.
-fn put_opening(out: &mut [u8], at: usize, node: Node) -> usize
-    ensures { Put at (opening_text node) out.old result out.new }
+fn put_opening(sink: &mut Sink, node: Node)
+    ensures { Puts (opening_text node) sink.old sink.new }
 {
     match node {
-        Node::Empty => put_bytes(out, at, b"Empty"),
+        Node::Empty => sink.bytes(b"Empty"),
         Node::Primitive(kind, size) => {
-            let next = put_bytes(out, at, b"(Prim ");
-            let next = put_number(out, next, kind, 0);
-            let next = put_byte(out, next, b' ');
-            put_bracket(out, next, size)
+            sink.bytes(b"(Prim ");
+            sink.signed(i128::from(kind));
+            sink.byte(b' ');
+            put_bracket(sink, size);
         }
         Node::Place(placement, v) => {
-            let next = put_open(out, at, placement_name(placement));
-            let next = put_byte(out, next, b' ');
-            put_bracket(out, next, v)
+            put_open(sink, Word::from(placement));
+            sink.byte(b' ');
+            put_bracket(sink, v);
         }
-        Node::Join(operator) => put_open(out, at, operator_name(operator)),
-        Node::Fold => put_bytes(out, at, b"(Fold Union"),
-        Node::Vector(v) => put_bracket(out, at, v),
-        Node::List(_) => put_bytes(out, at, b"(List"),
+        Node::Join(operator) => put_open(sink, Word::from(operator)),
+        Node::Fold => sink.bytes(b"(Fold Union"),
+        Node::Vector(v) => put_bracket(sink, v),
+        Node::List(_) => sink.bytes(b"(List"),
         Node::Repeat(n) => {
-            let next = put_bytes(out, at, b"(Repeat ");
-            put_number(out, next, n, 0)
+            sink.bytes(b"(Repeat ");
+            sink.signed(i128::from(n));
         }
         Node::Tabulate(n) => {
-            let next = put_bytes(out, at, b"(Tabulate (i ");
-            let next = put_number(out, next, n, 0);
-            put_byte(out, next, b')')
+            sink.bytes(b"(Tabulate (i ");
+            sink.signed(i128::from(n));
+            sink.byte(b')');
         }
-        Node::Concat => put_bytes(out, at, b"(Concat"),
-        Node::Sort(_) => put_bytes(out, at, b"(Sort"),
-        Node::Unsort(_) => put_bytes(out, at, b"(Unsort"),
+        Node::Concat => sink.bytes(b"(Concat"),
+        Node::Sort(_) => sink.bytes(b"(Sort"),
+        Node::Unsort(_) => sink.bytes(b"(Unsort"),
         Node::Map2(placement) => {
-            let next = put_bytes(out, at, b"(Map2 ");
-            put_bytes(out, next, placement_name(placement))
+            sink.bytes(b"(Map2 ");
+            sink.bytes(Word::from(placement).spelling());
         }
-        Node::Number(n) => put_decimal(out, at, n as u128),
+        Node::Number(n) => sink.decimal(n as u128),
     }
 }
 
 // What stands after them.
-fn put_closing(out: &mut [u8], at: usize, node: Node) -> usize
-    ensures { Put at (closing_text node) out.old result out.new }
+fn closing(node: Node) -> &'static [u8]
+    ensures { result.now ≡ closing_text node }
 {
     match node {
-        Node::Empty | Node::Vector(_) | Node::Number(_) => at,
-        _ => put_byte(out, at, b')'),
+        Node::Empty | Node::Vector(_) | Node::Number(_) => b"",
+        _ => b")",
     }
 }
 
-// Puts the expression whose nodes begin at a spot, and answers the spot after it.
+// Puts the expression whose nodes begin at a place, and answers the place after it.
 #[cycle(putting)]
-fn put_term(out: &mut [u8], nodes: &[Node], from: Spot) -> Spot
-    requires { from.place < length nodes.now }
-    ensures ahead { from.place < result.place }
-    ensures puts { TermPut nodes.now from out.old result out.new }
+fn put_term(sink: &mut Sink, nodes: &[Node], place: usize) -> usize
+    requires { place < length nodes.now }
+    ensures ahead { place < result }
+    ensures puts { TermPut nodes.now place sink.old result sink.new }
 {
-    let node = nodes[from.place];
-    let at = put_opening(out, from.at, node);
-    let first = Spot {
-        place: from.place + 1,
-        at,
-    };
-    let mut next = put_parts(out, nodes, first, node.parts());
-    next.at = put_closing(out, next.at, node);
+    let node = nodes[place];
+    put_opening(sink, node);
+    let next = put_parts(sink, nodes, place + 1, node.parts());
+    sink.bytes(closing(node));
     next
 }
 
 // Puts so many expressions, each after a space.
 #[cycle(putting)]
-fn put_parts(out: &mut [u8], nodes: &[Node], from: Spot, count: usize) -> Spot
-    ensures ahead { from.place ≤ result.place }
-    ensures puts { PartsPut nodes.now from count out.old result out.new }
+fn put_parts(sink: &mut Sink, nodes: &[Node], place: usize, count: usize) -> usize
+    ensures ahead { place ≤ result }
+    ensures puts { PartsPut nodes.now place count sink.old result sink.new }
 {
-    let mut next = from;
+    let mut next = place;
     for _ in 0..count {
-        if next.place >= nodes.len() {
+        if next >= nodes.len() {
             return next;
         }
-        next.at = put_byte(out, next.at, b' ');
-        next = put_term(out, nodes, next);
+        sink.byte(b' ');
+        next = put_term(sink, nodes, next);
     }
     next
+}
+
+fn put_program(sink: &mut Sink, table: &Table)
+    ensures { Puts (text_of (held table.now)) sink.old sink.new }
+{
+    put_term(sink, table.nodes.as_slice(), 0);
 }
 
 /// Writes the text of the program held at the buffer's start, and answers its length. A buffer that
@@ -170,14 +144,5 @@ pub fn write(table: &Table, out: &mut [u8]) -> Result<usize, Unwritten>
     ensures short { Short (held table.now) }
     ensures reads_back { ReadsBack (held table.now) result out.new }
 {
-    let nodes = table.nodes.as_slice();
-    let start = Spot { place: 0, at: 0 };
-    // Without a buffer the text is only measured.
-    let mut nothing: [u8; 0] = [];
-    let length = put_term(&mut nothing, nodes, start).at;
-    if out.len() < length {
-        return Err(Unwritten::ShortBuffer);
-    }
-    let end = put_term(out, nodes, start);
-    Ok(end.at)
+    fill(out, |sink| put_program(sink, table))
 }

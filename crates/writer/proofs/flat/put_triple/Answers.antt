@@ -2,7 +2,7 @@ use Rattle.std.proofs.Common.{[], ◌∷◌, ◌++◌, SFits, rules}
 use mir.Syntax.{w128}
 use Rattle.std.specs.Fmt.{signed_decimal}
 use Rattle.std.proofs.lemmas.Int.{to_z-of_z}
-use Rattle.writer.proofs.Puts.{put_then, put_as}
+use Rattle.writer.proofs.Puts.{puts_then, puts_as}
 use Rattle.writer.proofs.flat.put_triple.Goals as goal
 
 pub returns : goal.returns
@@ -14,5 +14,5 @@ returns c =
     let x = to_z-of_z w128 v.x fx in
     let y = to_z-of_z w128 v.y fy in
     let z = to_z-of_z w128 v.z fz in
-    put_as (λ i. 91 ∷ (signed_decimal (x i) ++ (44 ∷ (signed_decimal (y i) ++ (44 ∷ (signed_decimal (z i) ++ (93 ∷ [])))))))
-    (put_then c.put_byte-next.ensures (put_then c.put_signed-next.ensures (put_then c.put_byte-next-2.ensures (put_then c.put_signed-next-2.ensures (put_then c.put_byte-next-3.ensures (put_then c.put_signed-next-3.ensures c.put_byte.ensures))))))
+    puts_as (λ i. 91 ∷ (signed_decimal (x i) ++ (44 ∷ (signed_decimal (y i) ++ (44 ∷ (signed_decimal (z i) ++ (93 ∷ [])))))))
+    (puts_then c.byte.ensures (puts_then c.signed.ensures (puts_then c.byte-2.ensures (puts_then c.signed-2.ensures (puts_then c.byte-3.ensures (puts_then c.signed-3.ensures c.byte-4.ensures))))))

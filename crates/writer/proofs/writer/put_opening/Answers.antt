@@ -1,9 +1,8 @@
-use Rattle.std.proofs.Common.{◌≡◌, ℕ, true, List, [], ◌∷◌, ◌++◌, codes, decimal, sym, ap, ◌∙◌, append-nil, w64, SFits, rules}
-use Rattle.std.proofs.lemmas.Int.{to_z-of_z}
-use Rattle.model.specs.declared.node.Node.TheVariants as v
-use Rattle.model.specs.Tokens.{bracket}
-use Rattle.model.specs.Spelling.{opening_text, spells}
-use Rattle.writer.proofs.Puts.{put_then, put_as}
+use Rattle.std.proofs.Common.{◌≡◌, ℕ, List, [], ◌++◌, codes, sym, ap, ◌∙◌, append-nil, w64, SFits, rules}
+use Rattle.std.specs.Fmt.{signed_decimal}
+use Rattle.model.specs.Bytes.{spelling}
+use Rattle.writer.proofs.Puts.{puts_then, puts_as}
+use Rattle.writer.proofs.Signs.{widened}
 use Rattle.writer.proofs.writer.put_opening.Goals as goal
 
 -- a word at the end of what was put
@@ -11,57 +10,57 @@ last : {xs ys : List ℕ} → xs ≡ ys → xs ≡ ys ++ []
 last {xs} {ys} e = e ∙ sym (append-nil ys)
 
 pub returns-in-Empty : goal.returns-in-Empty
-returns-in-Empty c = put_as (ap opening_text (sym c.in-Empty.is)) c.put_bytes.ensures
+returns-in-Empty c = rw c.in-Empty.is c.bytes.ensures
 
 pub returns-in-Primitive : goal.returns-in-Primitive
 returns-in-Primitive c =
-    let fits : SFits w64 c.in-Primitive.kind = search rules in
-    put_as (ap (λ k. opening_text (v.Primitive k c.in-Primitive.size)) (to_z-of_z w64 c.in-Primitive.kind fits) ∙ ap opening_text (sym c.in-Primitive.is))
-    (put_then c.put_bytes-next.ensures (put_then c.put_number-next.ensures (put_then c.put_byte-next.ensures c.put_bracket.ensures)))
+    let k = c.in-Primitive.kind in
+    let fits : SFits w64 k = search rules in
+    rw (c.in-Primitive.is, ← widened c.from.result k fits c.from.ensures)
+    (puts_then c.bytes-in-Primitive.ensures (puts_then c.signed.ensures (puts_then c.byte.ensures c.put_bracket.ensures)))
 
 pub returns-in-Place : goal.returns-in-Place
-returns-in-Place c =
-    put_as (ap (λ l. 40 ∷ (l ++ (32 ∷ spells true (bracket c.in-Place.v)))) c.placement_name.ensures ∙ ap opening_text (sym c.in-Place.is))
-    (put_then c.put_open-next.ensures (put_then c.put_byte-next-in-Place.ensures c.put_bracket-in-Place.ensures))
+returns-in-Place c = rw (c.in-Place.is, ← c.from-in-Place.ensures) (puts_then c.put_open.ensures (puts_then c.byte-in-Place.ensures c.put_bracket-in-Place.ensures))
 
 pub returns-in-Join : goal.returns-in-Join
-returns-in-Join c =
-    put_as (ap (λ l. 40 ∷ l) (last c.operator_name.ensures) ∙ ap opening_text (sym c.in-Join.is)) c.put_open.ensures
+returns-in-Join c = rw (c.in-Join.is, ← c.from-in-Join.ensures) (puts_as (sym (append-nil _)) c.put_open-in-Join.ensures)
 
 pub returns-in-Fold : goal.returns-in-Fold
-returns-in-Fold c = put_as (ap opening_text (sym c.in-Fold.is)) c.put_bytes-in-Fold.ensures
+returns-in-Fold c = rw c.in-Fold.is c.bytes-in-Fold.ensures
 
 pub returns-in-Vector : goal.returns-in-Vector
-returns-in-Vector c = put_as (ap opening_text (sym c.in-Vector.is)) c.put_bracket-in-Vector.ensures
+returns-in-Vector c = rw c.in-Vector.is c.put_bracket-in-Vector.ensures
 
 pub returns-in-List : goal.returns-in-List
-returns-in-List c = put_as (ap opening_text (sym c.in-List.is)) c.put_bytes-in-List.ensures
+returns-in-List c = rw c.in-List.is c.bytes-in-List.ensures
 
 pub returns-in-Repeat : goal.returns-in-Repeat
 returns-in-Repeat c =
-    let fits : SFits w64 c.in-Repeat.n = search rules in
-    put_as (ap (λ l. codes "(Repeat " ++ l) (sym (append-nil _)) ∙ ap (λ n. opening_text (v.Repeat n)) (to_z-of_z w64 c.in-Repeat.n fits) ∙ ap opening_text (sym c.in-Repeat.is))
-    (put_then c.put_bytes-next-in-Repeat.ensures c.put_number.ensures)
+    let n = c.in-Repeat.n in
+    let fits : SFits w64 n = search rules in
+    let wide = widened c.from-in-Repeat.result n fits c.from-in-Repeat.ensures in
+    rw c.in-Repeat.is (puts_as (ap (λ l. codes "(Repeat " ++ l) (last (ap signed_decimal wide))) (puts_then c.bytes-in-Repeat.ensures c.signed-in-Repeat.ensures))
 
 pub returns-in-Tabulate : goal.returns-in-Tabulate
 returns-in-Tabulate c =
-    let fits : SFits w64 c.in-Tabulate.n = search rules in
-    put_as (ap (λ n. opening_text (v.Tabulate n)) (to_z-of_z w64 c.in-Tabulate.n fits) ∙ ap opening_text (sym c.in-Tabulate.is))
-    (put_then c.put_bytes-next-in-Tabulate.ensures (put_then c.put_number-next-in-Tabulate.ensures c.put_byte.ensures))
+    let n = c.in-Tabulate.n in
+    let fits : SFits w64 n = search rules in
+    rw (c.in-Tabulate.is, ← widened c.from-in-Tabulate.result n fits c.from-in-Tabulate.ensures)
+    (puts_then c.bytes-in-Tabulate.ensures (puts_then c.signed-in-Tabulate.ensures c.byte-in-Tabulate.ensures))
 
 pub returns-in-Concat : goal.returns-in-Concat
-returns-in-Concat c = put_as (ap opening_text (sym c.in-Concat.is)) c.put_bytes-in-Concat.ensures
+returns-in-Concat c = rw c.in-Concat.is c.bytes-in-Concat.ensures
 
 pub returns-in-Sort : goal.returns-in-Sort
-returns-in-Sort c = put_as (ap opening_text (sym c.in-Sort.is)) c.put_bytes-in-Sort.ensures
+returns-in-Sort c = rw c.in-Sort.is c.bytes-in-Sort.ensures
 
 pub returns-in-Unsort : goal.returns-in-Unsort
-returns-in-Unsort c = put_as (ap opening_text (sym c.in-Unsort.is)) c.put_bytes-in-Unsort.ensures
+returns-in-Unsort c = rw c.in-Unsort.is c.bytes-in-Unsort.ensures
 
 pub returns-in-Map2 : goal.returns-in-Map2
 returns-in-Map2 c =
-    put_as (ap (λ l. codes "(Map2 " ++ l) (last c.placement_name-in-Map2.ensures) ∙ ap opening_text (sym c.in-Map2.is))
-    (put_then c.put_bytes-next-in-Map2.ensures c.put_bytes-in-Map2.ensures)
+    rw c.in-Map2.is
+    (puts_as (ap (λ l. codes "(Map2 " ++ l) (last (c.spelling.ensures ∙ ap spelling c.from-in-Map2.ensures))) (puts_then c.bytes-in-Map2.ensures c.bytes-in-Map2-2.ensures))
 
 pub returns-in-Number : goal.returns-in-Number
-returns-in-Number c = put_as (sym (append-nil (decimal c.in-Number.n)) ∙ ap opening_text (sym c.in-Number.is)) c.put_decimal.ensures
+returns-in-Number c = rw c.in-Number.is (puts_as (sym (append-nil _)) c.decimal.ensures)

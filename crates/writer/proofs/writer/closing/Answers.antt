@@ -1,10 +1,9 @@
-use Rattle.std.proofs.Common.{◌≡◌, ℕ, [], ◌∷◌, sym, refl, ap, inl, inr, arith}
+use Rattle.std.proofs.Common.{◌≡◌, ℕ, [], ◌∷◌, sym, refl, ap, inl, inr}
 use Rattle.model.specs.declared.node.Node.{Node}
 use Rattle.model.specs.declared.node.Node.TheVariants as v
 use Rattle.model.specs.declared.node.Linear.{Linear}
 use Rattle.model.specs.Spelling.{closing_text}
-use Rattle.writer.proofs.Puts.{put_none, put_as}
-use Rattle.writer.proofs.writer.put_closing.Goals as goal
+use Rattle.writer.proofs.writer.closing.Goals as goal
 
 closed : (n : Node) → (n ≡ v.Empty → ⊥) → ((a : Linear) → n ≡ v.Vector a → ⊥) → ((j : ℕ) → n ≡ v.Number j → ⊥) → (41 ∷ []) ≡ closing_text n
 closed v.Empty e f g = absurd (e refl)
@@ -23,9 +22,7 @@ closed (v.Map2 t) e f g = refl
 closed (v.Number j) e f g = absurd (g j refl)
 
 pub returns-in-Empty : goal.returns-in-Empty
-returns-in-Empty c =
-    let none : [] ≡ closing_text c.args.node = elim c.in-Empty.is [ inl e ↦ ap closing_text (sym e) | inr r ↦ elim r [ inl e ↦ ap closing_text (sym e.1) | inr e ↦ ap closing_text (sym e.1) ] ] in
-    put_as none (put_none c.args.out.now c.args.at (omega arith))
+returns-in-Empty c = elim c.in-Empty.is [ inl e ↦ ap closing_text (sym e) | inr r ↦ elim r [ inl e ↦ ap closing_text (sym e.1) | inr e ↦ ap closing_text (sym e.1) ] ]
 
 pub returns-in_default : goal.returns-in_default
-returns-in_default c = put_as (closed c.args.node c.in_default.not-Empty c.in_default.not-Vector c.in_default.not-Number) c.put_byte.ensures
+returns-in_default c = closed c.args.node c.in_default.not-Empty c.in_default.not-Vector c.in_default.not-Number
