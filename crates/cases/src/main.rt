@@ -15,7 +15,7 @@ fn run(rt: &HostRuntime) -> anyhow::Result<()> {
     let mut out = vec![in heap; 0u8; MOST_BYTES]?;
     for line in rt.lines(heap) {
         let line = line?;
-        let text = text_of_line(heap, line.as_bytes())?;
+        let text = text_of_line(heap, line.as_str())?;
         rt.print(line.as_str())?;
         tell(
             rt,

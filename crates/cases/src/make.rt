@@ -8,16 +8,6 @@ fn repeat(text: &mut Vec<u8>, part: &[u8], times: usize) -> Result<(), AllocErro
     Ok(())
 }
 
-fn number(digits: &[u8]) -> usize {
-    let mut value: usize = 0;
-    for b in digits {
-        if b.is_ascii_digit() {
-            value = value.wrapping_mul(10).wrapping_add(usize::from(*b - b'0'));
-        }
-    }
-    value
-}
-
 // A list of so many nodes in all.
 fn wide(heap: Global, nodes: usize) -> Result<Vec<u8>, AllocError> {
     let mut text = Vec::from_slice(heap, b"(Fold Union (List")?;
@@ -68,15 +58,14 @@ fn plain(heap: Global, line: &[u8]) -> Result<Vec<u8>, AllocError> {
 }
 
 /// `nodes N`, `levels N` and `bytes N` stand for texts of that size; any other line is its text.
-pub fn text_of_line(heap: Global, line: &[u8]) -> Result<Vec<u8>, AllocError> {
-    if line.starts_with(b"nodes ") {
-        return wide(heap, number(line));
+pub fn text_of_line(heap: Global, line: &str) -> Result<Vec<u8>, AllocError> {
+    let Some((what, size)) = line.split_once(' ') else {
+        return plain(heap, line.as_bytes());
+    };
+    match (what, size.parse()) {
+        ("nodes", Ok(nodes)) => wide(heap, nodes),
+        ("levels", Ok(levels)) => deep(heap, levels),
+        ("bytes", Ok(bytes)) => long(heap, bytes),
+        _ => plain(heap, line.as_bytes()),
     }
-    if line.starts_with(b"levels ") {
-        return deep(heap, number(line));
-    }
-    if line.starts_with(b"bytes ") {
-        return long(heap, number(line));
-    }
-    plain(heap, line)
 }

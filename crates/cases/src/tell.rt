@@ -1,24 +1,17 @@
 // What becomes of a text: what it says, or why it is refused.
-use model::{Layer, Refusal, Table};
+use model::{Refusal, Report, Span, Table};
 use std::alloc::Global;
 
 // The longest text that is shown.
 const SHOWN: usize = 200;
 
-fn layer_name(layer: Layer) -> &'static str {
-    match layer {
-        Layer::Token => "token",
-        Layer::Grammar => "grammar",
-        Layer::Legality => "legality",
-    }
-}
-
 fn tell_refusal(rt: &HostRuntime, refusal: Refusal) -> anyhow::Result<()> {
-    let report = refusal.report();
-    let number = report.number;
-    let layer = layer_name(report.layer);
-    let at = report.span.at;
-    let len = report.span.len;
+    let Report {
+        number,
+        layer,
+        span,
+    } = Report::from(refusal);
+    let Span { at, len } = span;
     println!(rt; "  => refused {number} {layer} {at}, {len} long")?;
     Ok(())
 }
@@ -42,12 +35,8 @@ fn refuses_short(heap: Global, table: &Table, n: usize) -> anyhow::Result<bool> 
     let Err(refusal) = writer::write(table, short.as_mut_slice()) else {
         return Ok(false);
     };
-    for b in short.as_slice() {
-        if *b != b'.' {
-            return Ok(false);
-        }
-    }
-    Ok(refusal.number() == 16)
+    let kept = short.iter().all(|b| *b == b'.');
+    Ok(kept && u8::from(refusal) == 16)
 }
 
 /// Prints the outcome, and for a program its size, its depth, its text, and whether that reads back as itself.
