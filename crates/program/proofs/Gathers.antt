@@ -3,7 +3,7 @@ use Rattle.std.proofs.Common.{◌≡◌, ℕ, zero, suc, ◌+◌, ◌-◌, ◌<�
 use Rattle.std.proofs.lemmas.List.{drop_all, drop-drop, drop_more}
 use Rattle.program.specs.declared.measure.Measure.{Measure}
 use Rattle.program.specs.declared.parts.Parts.{Parts}
-use Rattle.program.specs.Measures.{nothing, terms, Bounded, Gathered}
+use Rattle.program.specs.Measures.{nothing, terms, Gathered}
 
 terms_none : (k : ℕ) → terms k [] ≡ []
 terms_none zero = refl

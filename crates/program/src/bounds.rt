@@ -68,9 +68,9 @@ fn turns_around(around: Option<i64>) -> u64
 fn is_far(v: Triple) -> bool
     ensures { result ≡ some_axis (beyond 1000000) v }
 {
-    is_beyond(FARTHEST, i128::from(v.x))
-        || is_beyond(FARTHEST, i128::from(v.y))
-        || is_beyond(FARTHEST, i128::from(v.z))
+    is_beyond(FARTHEST, v.x as i128)
+        || is_beyond(FARTHEST, v.y as i128)
+        || is_beyond(FARTHEST, v.z as i128)
 }
 
 fn is_sloped(v: Linear) -> bool
