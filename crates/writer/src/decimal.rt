@@ -7,7 +7,7 @@ ghost use Rattle.writer.specs.Putting.{Puts};
 use crate::sink::Sink;
 use model::Numeral;
 
-// What std writes of a number asks for memory, or may fail, so the digits are put here.
+// std prints a number into memory that it asks for, or by a call that may fail: so the recursion.
 impl Sink<'_> {
     pub fn decimal(&mut self, n: u128)
         ensures { Puts (decimal n) self.old self.new }

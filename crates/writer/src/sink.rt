@@ -1,4 +1,4 @@
-// A buffer to write into. Nothing asks for memory, so a text that is too long is cut off and counted.
+// A buffer to write into. No memory is asked for: a text is counted before it is written.
 ghost use Rattle.std.specs.Prelude.{◌≡◌, ℕ, List, [], ◌∷◌};
 ghost use Rattle.std.specs.Borrow.{MutBor};
 ghost use Rattle.writer.specs.declared.sink.Sink.{Sink};

@@ -25,8 +25,7 @@ impl From<Unwritten> for u8 {
     }
 }
 
-// Not one function with the bracket of three values in an unrolling: a trait for the two kinds of
-// number would be longer than either.
+// One function for this and put_triple would take a trait for two kinds of number, longer than both.
 fn put_bracket(sink: &mut Sink, v: Linear)
     ensures { Puts (spells true (bracket v)) sink.old sink.new }
 {
