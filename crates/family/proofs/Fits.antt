@@ -38,7 +38,6 @@ near_abs v e = let h = and_parts (le_z (neg_ℤ farthest) v) (le_z v farthest) e
 
 -- the numbers of a point in reach
 pub record Reached (p : Point) : Type 0 where
-  pub across : (near p.x && near p.y) ≡ true
   pub x : nat_abs p.x ≤ 1000000000
   pub y : nat_abs p.y ≤ 1000000000
   pub z : nat_abs p.z ≤ 1000000000
@@ -50,14 +49,12 @@ reached p e =
     let b = and_parts (near p.x && near p.y) (near p.z) a.0 in
     let c = and_parts (near p.x) (near p.y) b.0 in
     let w = and_parts (le_z (pos 1) p.w) (le_z p.w (pos 1000)) a.1 in
-    record { across = b.0; x = near_abs p.x c.0; y = near_abs p.y c.1; z = near_abs p.z b.1; w = omega (arith, ints, w.0, w.1) }
+    record { x = near_abs p.x c.0; y = near_abs p.y c.1; z = near_abs p.z b.1; w = omega (arith, ints, w.0, w.1) }
 
-pub squares_fit : (x y : ℤ) → (near x && near y) ≡ true → SFits w128 (x *ℤ x +ℤ y *ℤ y)
-squares_fit x y e =
-    let h = and_parts (near x) (near y) e in
-    let hx = near_abs x h.0 in
-    let hy = near_abs y h.1 in
-    sum (x *ℤ x) (y *ℤ y) (abs_bound x x 1000000000 1000000000 hx hx) (abs_bound y y 1000000000 1000000000 hy hy)
+pub squares_fit : (p : Point) → in_reach p ≡ true → SFits w128 (p.x *ℤ p.x +ℤ p.y *ℤ p.y)
+squares_fit p e =
+    let n = reached p e in
+    sum (p.x *ℤ p.x) (p.y *ℤ p.y) (abs_bound p.x p.x 1000000000 1000000000 n.x n.x) (abs_bound p.y p.y 1000000000 1000000000 n.y n.y)
   where
     sum : (a b : ℤ) → nat_abs a ≤ 1000000000000000000 → nat_abs b ≤ 1000000000000000000 → SFits w128 (a +ℤ b)
     sum a b p q = omega (arith, ints)

@@ -1,4 +1,3 @@
 pub mod Fits
 pub mod Joint
-pub mod Rows
 pub mod Raised

@@ -1,5 +1,6 @@
 -- The catalogue: profiles cut out by the half spaces of a table's rows. Assumes nothing.
-use Rattle.std.specs.Prelude.{ℕ, Bool, true, false, cond, ◌&&◌, ◌||◌, List, [], ◌∷◌, ℤ, pos, ◌+ℤ◌, ◌*ℤ◌, neg_ℤ, None, ◌==◌, int_le}
+use Rattle.std.specs.Prelude.{ℕ, Bool, true, false, cond, ◌&&◌, List, ℤ, pos, ◌+ℤ◌, ◌*ℤ◌, neg_ℤ, None, ◌==◌, int_le}
+use Rattle.std.specs.List.{list_any, list_all}
 use Rattle.model.specs.declared.point.Point.{Point}
 use Rattle.model.specs.declared.point.Primitive.{Primitive}
 use Rattle.model.specs.Bytes.{is_zero}
@@ -33,13 +34,7 @@ admits k p row = cond (of_profile k row) (half_space row p) true
 
 -- some row is of this profile
 abbrev pub has_profile : ℕ → List Row → Bool
-has_profile k [] = false
-has_profile k (row ∷ rows) = of_profile k row || has_profile k rows
-
--- each row passes the test
-abbrev pub every : (Row → Bool) → List Row → Bool
-every f [] = true
-every f (row ∷ rows) = f row && every f rows
+has_profile k rows = list_any (of_profile k) rows
 
 -- the record has no sizes
 abbrev pub no_sizes : Primitive → Bool
@@ -47,12 +42,12 @@ no_sizes r = is_zero r.sizes.x && is_zero r.sizes.y && is_zero r.sizes.z
 
 -- the record has no sizes, and is a profile whose rows are in range
 abbrev pub listed : List Row → Primitive → Bool
-listed rows r = no_sizes r && has_profile r.kind rows && every (fits r.kind) rows
+listed rows r = no_sizes r && has_profile r.kind rows && list_all (fits r.kind) rows
 
 -- the catalogue of a table
 abbrev pub catalogue : List Row → Meaning
 catalogue rows = record {
   legal = listed rows;
-  contains = λ r p. cond (listed rows r) (every (admits r.kind p) rows) false;
+  contains = λ r p. cond (listed rows r) (list_all (admits r.kind p) rows) false;
   absorbed = λ r f. None;
 }

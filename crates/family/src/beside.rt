@@ -20,15 +20,14 @@ fn own(primitive: &Primitive) -> Primitive
 {
     Primitive {
         kind: primitive.kind / 2,
-        sizes: primitive.sizes,
+        ..*primitive
     }
 }
 
 fn of_kind(kind: u16, absorbed: Option<Primitive>) -> Option<Primitive>
     ensures { result ≡ option_map (of_kind kind) absorbed }
 {
-    let Primitive { kind: _, sizes } = absorbed?;
-    Some(Primitive { kind, sizes })
+    absorbed.map(|part| Primitive { kind, ..part })
 }
 
 impl<F: Family, G: Family> Family for Beside<F, G> {

@@ -1,11 +1,12 @@
 // A family of profiles that the caller's table lists: each row is a half space of its profile.
 ghost use Rattle.std.specs.Prelude.{◌≡◌, true};
-ghost use Rattle.family.specs.Reaching.{in_reach};
-ghost use Rattle.family.specs.Catalogue.{catalogue, in_range, fits, is_coefficient, has_profile, every, no_sizes, listed, half_space, admits};
+ghost use Rattle.std.specs.List.{list_all};
+ghost use Rattle.family.specs.Catalogue.{catalogue, in_range, fits, is_coefficient, has_profile, no_sizes, listed, half_space, admits};
 ghost use Rattle.family.specs.CatalogueLaws.{catalogue_laws};
 
-use crate::exact::{is_zero, product, within};
-use crate::family::{Family, Reach, in_reach, is_near};
+use crate::exact::{product, within};
+use crate::family::{Family, Reach};
+use crate::reachable::{Reachable, is_near};
 use model::{Point, Primitive, Triple};
 
 const STEEPEST: i64 = 1_000;
@@ -44,32 +45,22 @@ fn row_fits(row: &Row, kind: u16) -> bool
 }
 
 fn all_fit(rows: &[Row], kind: u16) -> bool
-    ensures { result ≡ every (fits kind) rows.now }
+    ensures { result ≡ list_all (fits kind) rows.now }
 {
-    for row in rows {
-        if !row_fits(row, kind) {
-            return false;
-        }
-    }
-    true
+    rows.iter().all(|row| row_fits(row, kind))
 }
 
 fn has_profile(rows: &[Row], kind: u16) -> bool
     ensures { result ≡ has_profile kind rows.now }
 {
-    for row in rows {
-        if row.profile == kind {
-            return true;
-        }
-    }
-    false
+    rows.iter().any(|row| row.profile == kind)
 }
 
 fn has_no_sizes(primitive: &Primitive) -> bool
     ensures { result ≡ no_sizes primitive.now }
 {
     let Triple { x, y, z } = primitive.sizes;
-    is_zero(x) && is_zero(y) && is_zero(z)
+    x == 0 && y == 0 && z == 0
 }
 
 fn is_listed(rows: &[Row], primitive: &Primitive) -> bool
@@ -78,33 +69,26 @@ fn is_listed(rows: &[Row], primitive: &Primitive) -> bool
     has_no_sizes(primitive) && has_profile(rows, primitive.kind) && all_fit(rows, primitive.kind)
 }
 
-fn in_half_space(row: &Row, at: &Point) -> bool
-    requires { in_reach at.now ≡ true }
-    ensures { result ≡ half_space row.now at.now }
+fn in_half_space(row: &Row, at: Reachable) -> bool
+    ensures { result ≡ half_space row.now at }
 {
+    let at = at.point();
     let first = product(row.p, at.x);
     let second = product(row.q, at.y);
     let third = product(row.r, at.z);
     first + second + third <= product(row.d, at.w)
 }
 
-fn admits(row: &Row, kind: u16, at: &Point) -> bool
-    requires { in_reach at.now ≡ true }
-    ensures { result ≡ admits kind at.now row.now }
+fn admits(row: &Row, kind: u16, at: Reachable) -> bool
+    ensures { result ≡ admits kind at row.now }
 {
     row.profile != kind || in_half_space(row, at)
 }
 
-fn all_admit(rows: &[Row], kind: u16, at: &Point) -> bool
-    requires { in_reach at.now ≡ true }
-    ensures { result ≡ every (admits kind at.now) rows.now }
+fn all_admit(rows: &[Row], kind: u16, at: Reachable) -> bool
+    ensures { result ≡ list_all (admits kind at) rows.now }
 {
-    for row in rows {
-        if !admits(row, kind, at) {
-            return false;
-        }
-    }
-    true
+    rows.iter().all(|row| admits(row, kind, at))
 }
 
 impl<'a> Family for Catalogue<'a> {
@@ -117,9 +101,9 @@ impl<'a> Family for Catalogue<'a> {
     }
 
     fn contains(&self, primitive: &Primitive, at: &Point) -> Reach {
-        if !in_reach(at) {
+        let Some(at) = Reachable::new(*at) else {
             return Reach::OutOfReach;
-        }
+        };
         if is_listed(self.rows, primitive) && all_admit(self.rows, primitive.kind, at) {
             Reach::In
         } else {

@@ -1,16 +1,9 @@
 // What every family of primitives answers.
 ghost use Rattle.std.specs.Prelude.{◌≡◌};
 ghost use Rattle.model.specs.Families.{Meaning, Laws};
-ghost use Rattle.family.specs.Reaching.{near, in_reach, reach};
+ghost use Rattle.family.specs.Reaching.{reach};
 
-use crate::exact::within;
 use model::{Point, Primitive, Triple};
-
-/// The largest coordinate that is tested.
-const FARTHEST: i64 = 1_000_000_000;
-
-/// The largest divisor that is tested.
-const FINEST: i64 = 1_000;
 
 #[derive(Clone, Copy, PartialEq, Eq)]
 pub enum Reach {
@@ -22,9 +15,6 @@ pub enum Reach {
 pub trait Family {
     ghost meaning: { Self → Meaning };
 
-    // A member that is a proof, since a `law` is not taken where an impl has a lifetime.
-    ghost lawful: { (family : Self) → Laws (meaning family) };
-
     fn legal(&self, primitive: &Primitive) -> bool
         ensures { result ≡ (meaning self.now).legal primitive.now };
 
@@ -34,16 +24,6 @@ pub trait Family {
     /// The primitive that contains what `primitive` does when scaled by the factors, if the family has one.
     fn absorb(&self, primitive: &Primitive, factors: Triple) -> Option<Primitive>
         ensures { result ≡ (meaning self.now).absorbed primitive.now factors };
-}
 
-pub(crate) fn is_near(coordinate: i64) -> bool
-    ensures { result ≡ near coordinate }
-{
-    within(-FARTHEST, coordinate, FARTHEST)
-}
-
-pub(crate) fn in_reach(at: &Point) -> bool
-    ensures { result ≡ in_reach at.now }
-{
-    is_near(at.x) && is_near(at.y) && is_near(at.z) && within(1, at.w, FINEST)
+    ghost lawful: { (family : Self) → Laws (meaning family) };
 }

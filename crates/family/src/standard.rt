@@ -1,11 +1,11 @@
 // The standard family: boxes and upright cylinders.
 ghost use Rattle.std.specs.Prelude.{◌≡◌, true, ◌&&◌, pos, ◌*ℤ◌, ◌≤ℤ◌, int_lt};
-ghost use Rattle.family.specs.Reaching.{in_reach, near};
-ghost use Rattle.family.specs.Standard.{standard, is_size, is_box, is_cylinder, along, over_base, in_box, in_circle, in_cylinder, when, joint, box_absorbed, cylinder_absorbed};
+ghost use Rattle.family.specs.Standard.{standard, is_size, is_box, is_cylinder, along, over_base, in_box, in_circle, in_cylinder, holds, when, joint, box_absorbed, cylinder_absorbed};
 ghost use Rattle.family.specs.StandardLaws.{standard_laws};
 
-use crate::exact::{is_zero, product, within};
-use crate::family::{Family, Reach, in_reach};
+use crate::exact::{product, within};
+use crate::family::{Family, Reach};
+use crate::reachable::Reachable;
 use model::{Point, Primitive, Triple};
 
 const LARGEST: i64 = 1_000_000;
@@ -30,7 +30,7 @@ fn is_cylinder(primitive: &Primitive) -> bool
     ensures { result ≡ is_cylinder primitive.now }
 {
     let Triple { x, y, z } = primitive.sizes;
-    primitive.kind == 2 && is_size(x) && is_size(y) && is_zero(z)
+    primitive.kind == 2 && is_size(x) && is_size(y) && z == 0
 }
 
 fn is_along(value: i64, length: i64, w: i64) -> bool
@@ -52,20 +52,31 @@ fn in_box(primitive: &Primitive, at: &Point) -> bool
     over_base(primitive, at) && is_along(at.z, primitive.sizes.z, at.w)
 }
 
-fn in_circle(x: i64, y: i64, radius: i64) -> bool
-    requires { (near x && near y) ≡ true }
-    ensures { result ≡ in_circle x y radius }
+fn in_circle(at: Reachable, radius: i64) -> bool
+    ensures { result ≡ in_circle at.x at.y radius }
 {
+    let Point { x, y, .. } = at.point();
     product(x, x) + product(y, y) <= product(radius, radius)
 }
 
-fn in_cylinder(primitive: &Primitive, at: &Point) -> bool
-    requires shape { is_cylinder primitive.now ≡ true }
-    requires place { in_reach at.now ≡ true }
-    ensures { result ≡ in_cylinder primitive.now at.now }
+fn in_cylinder(primitive: &Primitive, at: Reachable) -> bool
+    requires { is_cylinder primitive.now ≡ true }
+    ensures { result ≡ in_cylinder primitive.now at }
 {
-    let radius = primitive.sizes.x * at.w;
-    in_circle(at.x, at.y, radius) && is_along(at.z, primitive.sizes.y, at.w)
+    let Point { z, w, .. } = at.point();
+    in_circle(at, primitive.sizes.x * w) && is_along(z, primitive.sizes.y, w)
+}
+
+fn holds(primitive: &Primitive, at: Reachable) -> bool
+    ensures { result ≡ holds primitive.now at }
+{
+    if is_box(primitive) {
+        in_box(primitive, &at.point())
+    } else if is_cylinder(primitive) {
+        in_cylinder(primitive, at)
+    } else {
+        false
+    }
 }
 
 /// A size times a factor without its sign, if that is a size too.
@@ -143,17 +154,14 @@ impl Family for Standard {
     }
 
     fn contains(&self, primitive: &Primitive, at: &Point) -> Reach {
-        if !in_reach(at) {
+        let Some(at) = Reachable::new(*at) else {
             return Reach::OutOfReach;
-        }
-        let held = if is_box(primitive) {
-            in_box(primitive, at)
-        } else if is_cylinder(primitive) {
-            in_cylinder(primitive, at)
-        } else {
-            false
         };
-        if held { Reach::In } else { Reach::Out }
+        if holds(primitive, at) {
+            Reach::In
+        } else {
+            Reach::Out
+        }
     }
 
     fn absorb(&self, primitive: &Primitive, factors: Triple) -> Option<Primitive> {

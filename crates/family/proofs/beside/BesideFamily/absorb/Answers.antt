@@ -18,13 +18,13 @@ returns g c =
           let side : r.kind % 2 ≡ 0 = w.if-primitive-eq0.true in
           c.of_kind.ensures
           ∙ ap (option_map (of_kind r.kind)) (w.absorbed-is ∙ w.absorb-absorbed.ensures ∙ ap (λ (q : Primitive). m.absorbed q f) c.own-own.ensures)
-          ∙ raised m (g.F.Family.lawful c.args.self.now.first) 0 r f side
+          ∙ raised m (g.met.F.Family.lawful c.args.self.now.first) 0 r f side
           ∙ sym (cond-true (is_first r) _ _ (eq-eqb (r.kind % 2) 0 side))
       | else-primitive-eq0 w ↦
           let ne : r.kind % 2 ≡ 0 → ⊥ = w.if-primitive-eq0.false in
           let side : r.kind % 2 ≡ 1 = omega arith in
           c.of_kind.ensures
           ∙ ap (option_map (of_kind r.kind)) (w.absorbed-is ∙ w.absorb-absorbed-else-primitive-eq0.ensures ∙ ap (λ (q : Primitive). n.absorbed q f) c.own-own.ensures)
-          ∙ raised n (g.G.Family.lawful c.args.self.now.second) 1 r f side
+          ∙ raised n (g.met.G.Family.lawful c.args.self.now.second) 1 r f side
           ∙ sym (cond-false (is_first r) _ _ (ne_eqb (r.kind % 2) 0 ne))
     ]
