@@ -10,3 +10,8 @@ pub mod Gathers
 pub mod Fills
 pub mod Roots
 pub mod Loads
+pub mod Places
+pub mod Hopping
+pub mod Items
+pub mod Taken
+pub mod Solids

@@ -1,3 +1,4 @@
 pub mod Judging
 pub mod Measures
 pub mod Loading
+pub mod Elements

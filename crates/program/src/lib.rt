@@ -2,11 +2,13 @@
 #![tactic(auto)]
 
 mod bounds;
+mod element;
 mod fault;
 mod judge;
 mod laid;
 mod layout;
 mod load;
+mod lookup;
 mod measure;
 mod measuring;
 mod part;
@@ -14,6 +16,7 @@ mod primitives;
 mod unloaded;
 mod walk;
 
+pub use element::{Both, Item, Term};
 pub use layout::Layout;
 pub use measure::Measure;
 pub use part::Part;
