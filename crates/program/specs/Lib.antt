@@ -1,3 +1,4 @@
+pub mod Narrow
 pub mod Judging
 pub mod Measures
 pub mod Loading

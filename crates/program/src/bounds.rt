@@ -4,15 +4,16 @@ ghost use Rattle.model.specs.Placements.{linear, at};
 ghost use Rattle.model.specs.Legality.{beyond, unfit, nonzero, some_axis, loose, wild, uncounted, unkind};
 ghost use Rattle.program.specs.Judging.{turns, turns_asked, some_along, some_axis_along, size_within, sizes_within};
 
+use super::narrow::is_beyond;
 use model::{Context, Linear, Placement, Triple};
 
 /// The largest constant, slope, translation and size.
-const FARTHEST: u128 = 1_000_000;
+const FARTHEST: u32 = 1_000_000;
 
-const LARGEST_FACTOR: u128 = 1_000;
+const LARGEST_FACTOR: u32 = 1_000;
 
 /// In degrees, as the quarter is.
-const LARGEST_ANGLE: u128 = 36_000;
+const LARGEST_ANGLE: u32 = 36_000;
 
 const QUARTER: u128 = 90;
 
@@ -20,12 +21,6 @@ const QUARTER: u128 = 90;
 const MOST_TURNS: i64 = 1_000;
 
 const LAST_KIND: i64 = 65_535;
-
-fn is_beyond(limit: u128, value: i128) -> bool
-    ensures { result ≡ beyond limit value }
-{
-    limit < value.unsigned_abs()
-}
 
 fn is_unfit(placement: Placement, value: i128) -> bool
     ensures { result ≡ unfit placement value }
