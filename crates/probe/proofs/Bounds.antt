@@ -1,33 +1,13 @@
 -- Numbers that fit their types.
 use Rattle.std.proofs.Common.{◌≡◌, ℕ, ◌^◌, ◌<◌, ◌≤◌, Bool, true, false, cond, ◌||◌, ℤ, pos, ◌+ℤ◌, ◌-ℤ◌, ◌*ℤ◌, nat_abs, Some, None, sym, refl, ap, ◌∙◌, subst, arith, w64, SFits, to_z, of_z}
 use borrow.Author.Differences.{ints}
-use mir.Syntax.{w128}
 use Rattle.std.proofs.lemmas.Bool.{ltb-false, le-ltb}
 use Rattle.std.proofs.lemmas.Int.{to_z-of_z}
 use Rattle.model.specs.declared.node.Triple.{Triple}
-use Rattle.model.specs.Placements.{linear}
 use Rattle.model.specs.Legality.{some_axis, beyond}
-use Rattle.probe.specs.Moving.{Small, bounded}
+use Rattle.program.specs.Narrow.{bounded}
+use Rattle.probe.specs.Moving.{Small}
 use Rattle.family.proofs.Fits.{abs_bound}
-
-step_bound : (i : ℕ) (s : ℤ) → i < 2 ^ 63 → SFits w64 s → nat_abs (pos i *ℤ s) ≤ 85070591730234615865843651857942052864
-step_bound i s h f = abs_bound (pos i) s 9223372036854775808 9223372036854775808 (omega (arith, ints)) (omega (arith, ints))
-
--- an index times a slope, and with the constant
-pub step_fits : (i : ℕ) (s : ℤ) → i < 2 ^ 63 → SFits w64 s → SFits w128 (pos i *ℤ s)
-step_fits i s h f = small (pos i *ℤ s) (step_bound i s h f)
-  where
-    small : (z : ℤ) → nat_abs z ≤ 85070591730234615865843651857942052864 → SFits w128 z
-    small z h = omega (arith, ints)
-
-pub value_fits : (c s : ℤ) (i : ℕ) → SFits w64 c → SFits w64 s → i < 2 ^ 63 → SFits w128 (c +ℤ pos i *ℤ s)
-value_fits c s i f g h = sum c (pos i *ℤ s) f (step_bound i s h g)
-  where
-    sum : (a b : ℤ) → SFits w64 a → nat_abs b ≤ 85070591730234615865843651857942052864 → SFits w128 (a +ℤ b)
-    sum a b p q = omega (arith, ints)
-
-pub wide : (z : ℤ) → SFits w64 z → SFits w128 z
-wide z f = omega (arith, ints)
 
 pub small_fits : (z : ℤ) (m : ℕ) → nat_abs z ≤ m → m < 2 ^ 63 → SFits w64 z
 small_fits z m h l = omega (arith, ints)
@@ -92,10 +72,6 @@ pub bounded_none : (m : ℕ) (v : Triple) → None ≡ bounded m v → Small m v
 bounded_none m v e s =
     let q : None ≡ Some v = e ∙ ap (λ b. cond b None (Some v)) (not_beyond m v s) in
     let z : ◌≡◌ {A = ℕ} 0 1 = cc in omega arith
-
--- the value that a call gives
-pub value_is : (r c s : ℤ) (i : ℕ) → SFits w128 r → SFits w64 c → SFits w64 s → r ≡ linear (to_z w64 (of_z w64 c)) (to_z w64 (of_z w64 s)) i → to_z w128 (of_z w128 r) ≡ linear c s i
-value_is r c s i f g h e = to_z-of_z w128 r f ∙ e ∙ (λ j. linear (to_z-of_z w64 c g j) (to_z-of_z w64 s h j) i)
 
 pub bounded_beyond : (m : ℕ) (v : Triple) → None ≡ bounded m v → some_axis (beyond m) v ≡ true
 bounded_beyond m v e = go (some_axis (beyond m) v) refl e
