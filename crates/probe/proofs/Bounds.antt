@@ -6,7 +6,6 @@ use Rattle.std.proofs.lemmas.Int.{to_z-of_z}
 use Rattle.model.specs.declared.node.Triple.{Triple}
 use Rattle.model.specs.Legality.{some_axis, beyond}
 use Rattle.program.specs.Narrow.{bounded}
-use Rattle.probe.specs.Moving.{Small}
 use Rattle.family.proofs.Fits.{abs_bound}
 
 pub small_fits : (z : ℤ) (m : ℕ) → nat_abs z ≤ m → m < 2 ^ 63 → SFits w64 z
@@ -51,6 +50,12 @@ pub or_false : (a b : Bool) → (a || b) ≡ false → (a ≡ false) × (b ≡ f
 or_false true b e = absurd (let z : ◌≡◌ {A = ℕ} 0 1 = cc in omega arith)
 or_false false b e = (refl, e)
 
+-- a vector without a number that is farther from 0 than m
+pub record Small (m : ℕ) (v : Triple) : Type 0 where
+  pub x : nat_abs v.x ≤ m
+  pub y : nat_abs v.y ≤ m
+  pub z : nat_abs v.z ≤ m
+
 pub small : (m : ℕ) (v : Triple) → some_axis (beyond m) v ≡ false → Small m v
 small m v e =
     let a = or_false (beyond m v.x) (beyond m v.y || beyond m v.z) e in
@@ -61,21 +66,14 @@ pub not_beyond : (m : ℕ) (v : Triple) → Small m v → some_axis (beyond m) v
 not_beyond m v s = λ i. le-ltb m (nat_abs v.x) s.x i || (le-ltb m (nat_abs v.y) s.y i || le-ltb m (nat_abs v.z) s.z i)
 
 -- what a bounded vector is
-pub bounded_some : (m : ℕ) (v u : Triple) → Some u ≡ bounded m v → (u ≡ v) × Small m v
+pub bounded_some : (m : ℕ) (v u : Triple) → Some u ≡ bounded m v → (u ≡ v) × Small m u
 bounded_some m v u e = go (some_axis (beyond m) v) refl e
   where
-    go : (b : Bool) → some_axis (beyond m) v ≡ b → Some u ≡ cond b None (Some v) → (u ≡ v) × Small m v
-    go true q e = absurd (let z : ◌≡◌ {A = ℕ} 0 1 = cc in omega arith)
-    go false q e = (cc, small m v q)
+    go : (b : Bool) → some_axis (beyond m) v ≡ b → Some u ≡ cond b None (Some v) → (u ≡ v) × Small m u
+    go true q e = let z : ⊥ = cc in absurd z
+    go false q e = let i : u ≡ v = cc in (i, subst (Small m) (sym i) (small m v q))
 
 pub bounded_none : (m : ℕ) (v : Triple) → None ≡ bounded m v → Small m v → ⊥
 bounded_none m v e s =
     let q : None ≡ Some v = e ∙ ap (λ b. cond b None (Some v)) (not_beyond m v s) in
     let z : ◌≡◌ {A = ℕ} 0 1 = cc in omega arith
-
-pub bounded_beyond : (m : ℕ) (v : Triple) → None ≡ bounded m v → some_axis (beyond m) v ≡ true
-bounded_beyond m v e = go (some_axis (beyond m) v) refl e
-  where
-    go : (b : Bool) → some_axis (beyond m) v ≡ b → None ≡ cond b None (Some v) → some_axis (beyond m) v ≡ true
-    go true q e = q
-    go false q e = absurd (let z : ◌≡◌ {A = ℕ} 0 1 = cc in omega arith)

@@ -9,7 +9,8 @@ use Rattle.model.specs.Families.{signed, rescaled}
 use Rattle.model.specs.Placements.{translated}
 use Rattle.family.specs.Reaching.{between, near, in_reach}
 use Rattle.family.proofs.Fits.{reached}
-use Rattle.probe.specs.Moving.{Small, spot_of}
+use Rattle.probe.specs.Moving.{spot_of}
+use Rattle.probe.proofs.Bounds.{Small}
 
 abs_neg : (z : ℤ) → nat_abs (neg_ℤ z) ≡ nat_abs z
 abs_neg (pos zero) = refl

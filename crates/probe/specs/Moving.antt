@@ -6,12 +6,6 @@ use Rattle.model.specs.declared.point.Point.{Point}
 use Rattle.model.specs.Placements.{placed, quarters, back, first, second}
 use Rattle.family.specs.Reaching.{in_reach}
 
--- a vector without a number that is farther from 0 than m
-pub record Small (m : ℕ) (v : Triple) : Type 0 where
-  pub x : unsigned_abs v.x ≤ m
-  pub y : unsigned_abs v.y ≤ m
-  pub z : unsigned_abs v.z ≤ m
-
 -- a plane turned back by so many quarters, as far from 0 as before
 pub record Turned (q : ℕ) (a b c d : ℤ) : Type 0 where
   pub first_is : c ≡ first (back (quarters q)) a b

@@ -1,13 +1,12 @@
 // Where a point gets to by placements.
-ghost use Rattle.std.specs.Prelude.{◌≡◌, ◌≤◌, true, ◌-ℤ◌, ◌*ℤ◌, unsigned_abs};
+ghost use Rattle.std.specs.Prelude.{◌≡◌, ◌≤◌, ◌-ℤ◌, ◌*ℤ◌, unsigned_abs};
 ghost use Rattle.model.specs.Axes.{exact};
 ghost use Rattle.model.specs.Placements.{translated, rotated, quarter as quarter_of, quarters};
 ghost use Rattle.model.specs.Families.{rescaled, signed};
-ghost use Rattle.family.specs.Reaching.{in_reach};
-ghost use Rattle.probe.specs.Moving.{spot_of, moves, Small, Turned};
+ghost use Rattle.probe.specs.Moving.{spot_of, moves, Turned};
 
 use family::Reachable;
-use model::{Placement, Point, Triple, Wide};
+use model::{Placement, Point, Wide};
 use program::narrowed;
 
 /// A longer way leads out of reach from every point in reach.
@@ -24,19 +23,6 @@ fn shifted(coordinate: i64, by: i64, w: i64) -> i64
     ensures { result ≡ coordinate -ℤ by *ℤ w }
 {
     coordinate - by * w
-}
-
-fn translate(by: Triple, at: Point) -> Point
-    requires near { in_reach at ≡ true }
-    requires small { Small 2000000000 by }
-    ensures { result ≡ translated by at }
-{
-    Point {
-        x: shifted(at.x, by.x, at.w),
-        y: shifted(at.y, by.y, at.w),
-        z: shifted(at.z, by.z, at.w),
-        w: at.w,
-    }
 }
 
 fn product(a: i64, b: i64, c: i64) -> i64
@@ -57,30 +43,11 @@ fn with_sign(m: i64, value: i64) -> i64
     if m >= 0 { value } else { -value }
 }
 
-fn rescale(by: Triple, at: Point) -> Point
-    requires near { in_reach at ≡ true }
-    requires small { Small 1000 by }
-    ensures { result ≡ rescaled by at }
-{
-    let m = product(by.x, by.y, by.z);
-    let divisor = at.w * by.x;
-    Point {
-        x: with_sign(m, product(at.x, by.y, by.z)),
-        y: with_sign(m, product(at.y, by.x, by.z)),
-        z: with_sign(m, product(at.z, by.x, by.y)),
-        w: with_sign(m, product(divisor, by.y, by.z)),
-    }
-}
-
 /// The quarters in a number of degrees, rounded down.
 fn quarter(degrees: i128) -> u8
     ensures { quarters result ≡ quarter_of degrees }
 {
-    if degrees >= 0 {
-        (degrees as u128 / 90 % 4) as u8
-    } else {
-        3 - ((-(degrees + 1)) as u128 / 90 % 4) as u8
-    }
+    degrees.div_euclid(90).rem_euclid(4) as u8
 }
 
 /// A plane turned back by so many quarters.
@@ -99,16 +66,28 @@ fn turn_back(quarter: u8, a: i64, b: i64) -> (i64, i64)
 fn slid(vector: Wide, at: Reachable) -> Option<Reachable>
     ensures { result ≡ spot_of (translated (exact vector) at) }
 {
-    let at = at.point();
+    let Point { x, y, z, w } = at.point();
     let by = narrowed(LONGEST_WAY, vector)?;
-    Reachable::new(translate(by, at))
+    Reachable::new(Point {
+        x: shifted(x, by.x, w),
+        y: shifted(y, by.y, w),
+        z: shifted(z, by.z, w),
+        w,
+    })
 }
 
 fn scaled(vector: Wide, at: Reachable) -> Option<Reachable>
     ensures { result ≡ spot_of (rescaled (exact vector) at) }
 {
+    let Point { x, y, z, w } = at.point();
     let by = narrowed(LARGEST_FACTOR, vector)?;
-    Reachable::new(rescale(by, at.point()))
+    let m = product(by.x, by.y, by.z);
+    Reachable::new(Point {
+        x: with_sign(m, product(x, by.y, by.z)),
+        y: with_sign(m, product(y, by.x, by.z)),
+        z: with_sign(m, product(z, by.x, by.y)),
+        w: with_sign(m, product(w * by.x, by.y, by.z)),
+    })
 }
 
 fn turned(vector: Wide, at: Reachable) -> Option<Reachable>
