@@ -1,33 +1,12 @@
 -- Numbers that fit their types.
 use Rattle.std.proofs.Common.{◌≡◌, ℕ, ◌^◌, ◌<◌, ◌≤◌, Bool, true, false, cond, ◌||◌, ℤ, pos, ◌+ℤ◌, ◌-ℤ◌, ◌*ℤ◌, nat_abs, Some, None, sym, refl, ap, ◌∙◌, subst, arith, w64, SFits, to_z, of_z}
 use borrow.Author.Differences.{ints}
-use mir.Syntax.{w128}
 use Rattle.std.proofs.lemmas.Bool.{ltb-false, le-ltb}
 use Rattle.std.proofs.lemmas.Int.{to_z-of_z}
 use Rattle.model.specs.declared.node.Triple.{Triple}
-use Rattle.model.specs.Placements.{linear}
 use Rattle.model.specs.Legality.{some_axis, beyond}
-use Rattle.probe.specs.Moving.{Small, bounded}
+use Rattle.program.specs.Narrow.{bounded}
 use Rattle.family.proofs.Fits.{abs_bound}
-
-step_bound : (i : ℕ) (s : ℤ) → i < 2 ^ 63 → SFits w64 s → nat_abs (pos i *ℤ s) ≤ 85070591730234615865843651857942052864
-step_bound i s h f = abs_bound (pos i) s 9223372036854775808 9223372036854775808 (omega (arith, ints)) (omega (arith, ints))
-
--- an index times a slope, and with the constant
-pub step_fits : (i : ℕ) (s : ℤ) → i < 2 ^ 63 → SFits w64 s → SFits w128 (pos i *ℤ s)
-step_fits i s h f = small (pos i *ℤ s) (step_bound i s h f)
-  where
-    small : (z : ℤ) → nat_abs z ≤ 85070591730234615865843651857942052864 → SFits w128 z
-    small z h = omega (arith, ints)
-
-pub value_fits : (c s : ℤ) (i : ℕ) → SFits w64 c → SFits w64 s → i < 2 ^ 63 → SFits w128 (c +ℤ pos i *ℤ s)
-value_fits c s i f g h = sum c (pos i *ℤ s) f (step_bound i s h g)
-  where
-    sum : (a b : ℤ) → SFits w64 a → nat_abs b ≤ 85070591730234615865843651857942052864 → SFits w128 (a +ℤ b)
-    sum a b p q = omega (arith, ints)
-
-pub wide : (z : ℤ) → SFits w64 z → SFits w128 z
-wide z f = omega (arith, ints)
 
 pub small_fits : (z : ℤ) (m : ℕ) → nat_abs z ≤ m → m < 2 ^ 63 → SFits w64 z
 small_fits z m h l = omega (arith, ints)
@@ -71,6 +50,12 @@ pub or_false : (a b : Bool) → (a || b) ≡ false → (a ≡ false) × (b ≡ f
 or_false true b e = absurd (let z : ◌≡◌ {A = ℕ} 0 1 = cc in omega arith)
 or_false false b e = (refl, e)
 
+-- a vector without a number that is farther from 0 than m
+pub record Small (m : ℕ) (v : Triple) : Type 0 where
+  pub x : nat_abs v.x ≤ m
+  pub y : nat_abs v.y ≤ m
+  pub z : nat_abs v.z ≤ m
+
 pub small : (m : ℕ) (v : Triple) → some_axis (beyond m) v ≡ false → Small m v
 small m v e =
     let a = or_false (beyond m v.x) (beyond m v.y || beyond m v.z) e in
@@ -81,25 +66,14 @@ pub not_beyond : (m : ℕ) (v : Triple) → Small m v → some_axis (beyond m) v
 not_beyond m v s = λ i. le-ltb m (nat_abs v.x) s.x i || (le-ltb m (nat_abs v.y) s.y i || le-ltb m (nat_abs v.z) s.z i)
 
 -- what a bounded vector is
-pub bounded_some : (m : ℕ) (v u : Triple) → Some u ≡ bounded m v → (u ≡ v) × Small m v
+pub bounded_some : (m : ℕ) (v u : Triple) → Some u ≡ bounded m v → (u ≡ v) × Small m u
 bounded_some m v u e = go (some_axis (beyond m) v) refl e
   where
-    go : (b : Bool) → some_axis (beyond m) v ≡ b → Some u ≡ cond b None (Some v) → (u ≡ v) × Small m v
-    go true q e = absurd (let z : ◌≡◌ {A = ℕ} 0 1 = cc in omega arith)
-    go false q e = (cc, small m v q)
+    go : (b : Bool) → some_axis (beyond m) v ≡ b → Some u ≡ cond b None (Some v) → (u ≡ v) × Small m u
+    go true q e = let z : ⊥ = cc in absurd z
+    go false q e = let i : u ≡ v = cc in (i, subst (Small m) (sym i) (small m v q))
 
 pub bounded_none : (m : ℕ) (v : Triple) → None ≡ bounded m v → Small m v → ⊥
 bounded_none m v e s =
     let q : None ≡ Some v = e ∙ ap (λ b. cond b None (Some v)) (not_beyond m v s) in
     let z : ◌≡◌ {A = ℕ} 0 1 = cc in omega arith
-
--- the value that a call gives
-pub value_is : (r c s : ℤ) (i : ℕ) → SFits w128 r → SFits w64 c → SFits w64 s → r ≡ linear (to_z w64 (of_z w64 c)) (to_z w64 (of_z w64 s)) i → to_z w128 (of_z w128 r) ≡ linear c s i
-value_is r c s i f g h e = to_z-of_z w128 r f ∙ e ∙ (λ j. linear (to_z-of_z w64 c g j) (to_z-of_z w64 s h j) i)
-
-pub bounded_beyond : (m : ℕ) (v : Triple) → None ≡ bounded m v → some_axis (beyond m) v ≡ true
-bounded_beyond m v e = go (some_axis (beyond m) v) refl e
-  where
-    go : (b : Bool) → some_axis (beyond m) v ≡ b → None ≡ cond b None (Some v) → some_axis (beyond m) v ≡ true
-    go true q e = q
-    go false q e = absurd (let z : ◌≡◌ {A = ℕ} 0 1 = cc in omega arith)

@@ -12,11 +12,11 @@ use Rattle.probe.specs.declared.task.Turn.TheVariants.{Enter, Leave}
 use Rattle.std.proofs.lemmas.List.{drop_more, drop_all}
 use Rattle.model.specs.Syntax.{solid, many}
 use Rattle.model.specs.Counts.{count}
-use Rattle.model.specs.Shapes.{idle}
 use Rattle.model.specs.Unrolling.{apply, belonging}
 use Rattle.model.proofs.Counted.{length_run}
+use Rattle.program.specs.Elements.{Holds}
 use Rattle.probe.specs.Terms.{term}
-use Rattle.probe.specs.Walking.{both, walking, any, reserve, total, Sound, AllSound, walk, walks, said, Goes, Led, Sought}
+use Rattle.probe.specs.Walking.{both, Walk, walking, any, reserve, total, Sound, AllSound, walk, walks, said, Goes, Leads}
 use Rattle.probe.proofs.Terms.{inside}
 use Rattle.probe.proofs.Frames.{or_assoc, or_nothing, sound_last, goes_pop, goes_swap}
 
@@ -37,31 +37,32 @@ module _ (nodes : List Node) (fs : List Frame) where
     pub leave_right : (f : Frame) (o : Operator) (a b r : Bool) → f ≡ Right o a → r ≡ apply belonging o a b → AllSound nodes 0 (fs ++ f ∷ []) → Goes nodes m (fs ++ f ∷ []) (Leave b) fs (Leave r)
     leave_right f o a b r e q s = seen f (Right o a) (Leave b) (Leave r) fs e (λ z. goes_pop nodes m fs (Right o a) (Leave b) (Leave r) (ap Some q) (omega arith) z tt) s
 
-    pub leave_done : (f : Frame) (x : Task) (k : ℕ) (a b r : Bool) → f ≡ Rest x k a → r ≡ (a || b) → count (term nodes (many solid) x.node) ≤ k → AllSound nodes 0 (fs ++ f ∷ []) → Goes nodes m (fs ++ f ∷ []) (Leave b) fs (Leave r)
+    pub leave_done : (f : Frame) (x : Task) (k : ℕ) (a b r : Bool) → f ≡ Rest x k a → r ≡ (a || b) → count (term nodes (many solid) x.term.place) ≤ k → AllSound nodes 0 (fs ++ f ∷ []) → Goes nodes m (fs ++ f ∷ []) (Leave b) fs (Leave r)
     leave_done f x k a b r e q l s =
-        let n = length_run (walking m) (term nodes (many solid) x.node) x.index in
-        let z : drop k (walks nodes m x) ≡ [] = drop_all k (walks nodes m x) (omega arith) in
+        let n = length_run (walking m) (term nodes (many solid) x.term.place) x.term.index in
+        let z : drop k (walks nodes m x.term) ≡ [] = drop_all k (walks nodes m x.term) (omega arith) in
         seen f (Rest x k a) (Leave b) (Leave r) fs e
         (λ t. goes_pop nodes m fs (Rest x k a) (Leave b) (Leave r)
         (ap Some q ∙ sym (or_nothing (Some (a || b))) ∙ ap (λ p. both Union (Some (a || b)) (any p x.spot)) (sym z)) (omega arith) t tt) s
 
-    pub leave_next : (f : Frame) (x y : Task) (k : ℕ) (a b r : Bool) → f ≡ Rest x k a → r ≡ (a || b) → k < count (term nodes (many solid) x.node) → length nodes ≤ 640 → Led nodes m solid x k y → AllSound nodes 0 (fs ++ f ∷ [])
-        → Goes nodes m (fs ++ f ∷ []) (Leave b) (fs ++ Rest x (k + 1) r ∷ []) (Enter y)
+    pub leave_next : (f : Frame) (x y : Task) (k : ℕ) (a b r : Bool) → f ≡ Rest x k a → r ≡ (a || b) → k < count (term nodes (many solid) x.term.place) → length nodes ≤ 640
+        → Leads nodes m x (get_or (walks nodes m x.term) k (walking m).empty) y → AllSound nodes 0 (fs ++ f ∷ []) → Goes nodes m (fs ++ f ∷ []) (Leave b) (fs ++ Rest x (k + 1) r ∷ []) (Enter y)
     leave_next f x y k a b r e q l few led s =
         let o = last_of f (Rest x k a) e s in
-        let n = length_run (walking m) (term nodes (many solid) x.node) x.index in
-        let w = get_or (walks nodes m x) k (idle (walking m) solid) in
-        let us = drop (k + 1) (walks nodes m x) in
-        let z : drop k (walks nodes m x) ≡ w ∷ us = drop_more (walks nodes m x) k (idle (walking m) solid) (omega arith) in
+        let n = length_run (walking m) (term nodes (many solid) x.term.place) x.term.index in
+        let w : Walk = get_or (walks nodes m x.term) k (walking m).empty in
+        let us = drop (k + 1) (walks nodes m x.term) in
+        let z : drop k (walks nodes m x.term) ≡ w ∷ us = drop_more (walks nodes m x.term) k (walking m).empty (omega arith) in
         let R = any us x.spot in
-        let same : both Union (both Union (Some r) (said nodes m y)) R ≡ both Union (both Union (Some a) (Some b)) (any (drop k (walks nodes m x)) x.spot) =
-        (λ j. both Union (both Union (Some (q j)) (led.same.0 j)) R) ∙ sym (or_assoc (Some (a || b)) (w.says x.spot) R) ∙ ap (λ u. both Union (Some (a || b)) (any u x.spot)) (sym z) in
-        let c : total (reserve x.node) (drop k (walks nodes m x)) ≡ (2560 * w.turns + reserve x.node) + total (reserve x.node) us = ap (total (reserve x.node)) z in
-        let i = inside nodes x.node o.1.stands in
-        let le : (walk nodes m y).turns ≤ w.turns = led.same.1 in
+        let same : both Union (both Union (Some r) (said nodes m y)) R ≡ both Union (both Union (Some a) (Some b)) (any (drop k (walks nodes m x.term)) x.spot) =
+        (λ j. both Union (both Union (Some (q j)) (led.same j)) R) ∙ sym (or_assoc (Some (a || b)) (w.says x.spot) R) ∙ ap (λ u. both Union (Some (a || b)) (any u x.spot)) (sym z) in
+        let c : total (reserve x.term.place) (drop k (walks nodes m x.term)) ≡ (2560 * w.turns + reserve x.term.place) + total (reserve x.term.place) us = ap (total (reserve x.term.place)) z in
+        let i = inside nodes (many solid) x.term.place o.1 in
+        let le : (walk nodes m y.term).turns ≤ w.turns = led.turns in
         seen f (Rest x k a) (Leave b) (Enter y) (fs ++ Rest x (k + 1) r ∷ []) e
-        (λ t. goes_swap nodes m fs (Rest x k a) (Rest x (k + 1) r) (Leave b) (Enter y) same (omega (arith, c, le, led.behind)) t o (omega (arith, o.0, led.behind), led.ready)) s
+        (λ t. goes_swap nodes m fs (Rest x k a) (Rest x (k + 1) r) (Leave b) (Enter y) same (omega (arith, c, le, led.behind)) t o (omega (arith, o.0, led.behind), led.stands)) s
 
-  -- the next element can be sought
-  pub next_sought : (f : Frame) (x : Task) (k : ℕ) (a : Bool) → f ≡ Rest x k a → AllSound nodes 0 (fs ++ f ∷ []) → k < count (term nodes (many solid) x.node) → Sought nodes solid x k
-  next_sought f x k a e s h = record { ready = (last_of f (Rest x k a) e s).1; few = h }
+    -- the next element is there
+    pub next_holds : (f : Frame) (x : Task) (k : ℕ) (a : Bool) → f ≡ Rest x k a → AllSound nodes 0 (fs ++ f ∷ []) → k < count (term nodes (many solid) x.term.place)
+        → Holds (walking m) nodes x.term k solid (get_or (walks nodes m x.term) k (walking m).empty)
+    next_holds f x k a e s h = record { list = term nodes (many solid) x.term.place; begins = (last_of f (Rest x k a) e s).1; within = h; is = refl }

@@ -1,11 +1,9 @@
 pub mod Bounds
 pub mod Outside
 pub mod Terms
-pub mod Rows
-pub mod Leads
 pub mod Frames
 pub mod Entering
+pub mod Elements
 pub mod Leaving
 pub mod Straying
 pub mod Parts
-pub mod Onwards

@@ -1,5 +1,5 @@
 -- A long way and a large factor lead out of reach. Assumes nothing.
-use Rattle.std.proofs.Common.{◌≡◌, ℕ, zero, suc, ◌*◌, ◌≤◌, Bool, true, false, cond, ◌&&◌, ℤ, pos, negsuc, ◌-ℤ◌, ◌*ℤ◌, neg_ℤ, nat_abs, refl, mul-le-mul, one-mul, mul-zero, zero-mul, mul-one, arith}
+use Rattle.std.proofs.Common.{◌≡◌, ℕ, zero, suc, ◌*◌, ◌≤◌, Bool, true, false, cond, ◌&&◌, ℤ, pos, negsuc, ◌-ℤ◌, ◌*ℤ◌, neg_ℤ, nat_abs, Some, None, refl, mul-le-mul, one-mul, mul-zero, zero-mul, mul-one, arith}
 use borrow.Author.Differences.{ints}
 use lib.Signed.{le_z, non_neg}
 use Rattle.std.proofs.lemmas.Bool.{and_parts}
@@ -9,8 +9,8 @@ use Rattle.model.specs.Families.{signed, rescaled}
 use Rattle.model.specs.Placements.{translated}
 use Rattle.family.specs.Reaching.{between, near, in_reach}
 use Rattle.family.proofs.Fits.{reached}
-use Rattle.probe.specs.declared.spot.Spot.TheVariants.{At, Gone}
-use Rattle.probe.specs.Moving.{Small, spot_of, Reached}
+use Rattle.probe.specs.Moving.{spot_of}
+use Rattle.probe.proofs.Bounds.{Small}
 
 abs_neg : (z : ℤ) → nat_abs (neg_ℤ z) ≡ nat_abs z
 abs_neg (pos zero) = refl
@@ -84,16 +84,9 @@ small_factors v p f =
     record { x = omega (arith, s, w, e3, f3.1, e2, f2.1, e1, f1.2); y = omega (arith, s, w, e3, f3.1, e2, f2.2); z = omega (arith, s, w, e3, f3.2) }
 
 -- a point whose spot would need the impossible is gone
-pub gone : (p : Point) → (in_reach p ≡ true → ⊥) → Gone ≡ spot_of p
+pub gone : (p : Point) → (in_reach p ≡ true → ⊥) → None ≡ spot_of p
 gone p k = go (in_reach p) refl
   where
-    go : (b : Bool) → in_reach p ≡ b → Gone ≡ cond b (At p) Gone
+    go : (b : Bool) → in_reach p ≡ b → None ≡ cond b (Some p) None
     go true e = absurd (k e)
     go false e = refl
-
-pub reached_spot : (p : Point) → Reached (spot_of p)
-reached_spot p = go (in_reach p) refl
-  where
-    go : (b : Bool) → in_reach p ≡ b → Reached (cond b (At p) Gone)
-    go true e = e
-    go false e = tt

@@ -16,7 +16,6 @@ use Rattle.model.specs.Unrolling.{programs, unroll, apply, belonging, primitive,
 use Rattle.model.proofs.Related.{related, Relates, keeps_run}
 use Rattle.model.proofs.Unrolled.{at_still}
 use Rattle.family.specs.Reaching.{in_reach}
-use Rattle.probe.specs.declared.spot.Spot.TheVariants.{At, Gone}
 use Rattle.probe.specs.declared.unprobed.Unprobed.TheVariants.{OutOfReach}
 use Rattle.probe.specs.Probing.{straying, strays}
 use Rattle.probe.specs.Walking.{both, Walk, walking, asked, verdict}
@@ -53,8 +52,8 @@ abbrev Told : Type 0
 Told = Bool × ((Bool → Point → Bool) × (Point → Bool))
 
 pub record Says (s : Bool → Point → Bool) (c : Point → Bool) (w : Walk) : Type 0 where
-  pub here : (p : Point) → w.says (At p) ≡ cond (s false p) None (Some (c p))
-  pub gone : (p : Point) → w.says Gone ≡ cond (s true p) None (Some (c p))
+  pub here : (p : Point) → w.says (Some p) ≡ cond (s false p) None (Some (c p))
+  pub gone : (p : Point) → w.says None ≡ cond (s true p) None (Some (c p))
 
 abbrev R : Told → Walk → Type 0
 R x w = x.0 ≡ true → Says x.1.0 x.1.1 w
@@ -64,8 +63,8 @@ joined o true b c d = refl
 joined o false true c d = refl
 joined o false false c d = refl
 
-placed_on : (s : Bool → Point → Bool) (c : Point → Bool) (w : Walk) (p : Point) → ((q : Point) → w.says (At q) ≡ cond (s false q) None (Some (c q))) → ((q : Point) → w.says Gone ≡ cond (s true q) None (Some (c q)))
-    → (r : Bool) → w.says (cond r (At p) Gone) ≡ cond (s (false || not r) p) None (Some (c p))
+placed_on : (s : Bool → Point → Bool) (c : Point → Bool) (w : Walk) (p : Point) → ((q : Point) → w.says (Some q) ≡ cond (s false q) None (Some (c q))) → ((q : Point) → w.says None ≡ cond (s true q) None (Some (c q)))
+    → (r : Bool) → w.says (cond r (Some p) None) ≡ cond (s (false || not r) p) None (Some (c p))
 placed_on s c w p h g true = h p
 placed_on s c w p h g false = g p
 
@@ -88,7 +87,7 @@ module _ (m : Meaning) where
   }
 
   -- what the walk says at a point
-  pub says_is : (e : Solid) (p : Point) → tame e ≡ true → (run (walking (asked m)) e 0).says (At p) ≡ cond (strays e p) None (Some (contains m e p))
+  pub says_is : (e : Solid) (p : Point) → tame e ≡ true → (run (walking (asked m)) e 0).says (Some p) ≡ cond (strays e p) None (Some (contains m e p))
   unfolding tame strays value
   says_is e p t =
       let K = beside straying (values belonging m.contains) in

@@ -2,4 +2,3 @@ pub mod Moving
 pub mod Probing
 pub mod Terms
 pub mod Walking
-pub mod Leading

@@ -1,23 +1,10 @@
 -- Where a point gets to by placements. Assumes nothing.
-use Rattle.std.specs.Prelude.{◌≡◌, ℕ, ◌≤◌, true, cond, ℤ, Some, None, Option, unsigned_abs}
+use Rattle.std.specs.Prelude.{◌≡◌, ℕ, ◌≤◌, cond, ℤ, Some, None, Option, unsigned_abs}
 use Rattle.model.specs.declared.node.Placement.{Placement}
 use Rattle.model.specs.declared.node.Triple.{Triple}
 use Rattle.model.specs.declared.point.Point.{Point}
-use Rattle.model.specs.Legality.{some_axis, beyond}
 use Rattle.model.specs.Placements.{placed, quarters, back, first, second}
 use Rattle.family.specs.Reaching.{in_reach}
-use Rattle.probe.specs.declared.spot.Spot.{Spot}
-use Rattle.probe.specs.declared.spot.Spot.TheVariants.{At, Gone}
-
--- a vector, if none of its numbers is farther from 0 than m
-abbrev pub bounded : ℕ → Triple → Option Triple
-bounded m v = cond (some_axis (beyond m) v) None (Some v)
-
--- a vector without such a number
-pub record Small (m : ℕ) (v : Triple) : Type 0 where
-  pub x : unsigned_abs v.x ≤ m
-  pub y : unsigned_abs v.y ≤ m
-  pub z : unsigned_abs v.z ≤ m
 
 -- a plane turned back by so many quarters, as far from 0 as before
 pub record Turned (q : ℕ) (a b c d : ℤ) : Type 0 where
@@ -26,16 +13,15 @@ pub record Turned (q : ℕ) (a b c d : ℤ) : Type 0 where
   pub near_first : unsigned_abs c ≤ 1000000000
   pub near_second : unsigned_abs d ≤ 1000000000
 
+-- where a point has got to: nowhere, if it got out of reach
+abbrev pub Spot : Type 0
+Spot = Option Point
+
 -- the spot of a point
 abbrev pub spot_of : Point → Spot
-spot_of p = cond (in_reach p) (At p) Gone
+spot_of p = cond (in_reach p) (Some p) None
 
 -- where a placement takes a spot; what is gone stays gone
 abbrev pub moves : Placement → Triple → Spot → Spot
-moves t v (At p) = spot_of (placed t v p)
-moves t v Gone = Gone
-
--- a spot's point is in reach
-abbrev pub Reached : Spot → Type 0
-Reached (At p) = in_reach p ≡ true
-Reached Gone = Unit {0}
+moves t v (Some p) = spot_of (placed t v p)
+moves t v None = None

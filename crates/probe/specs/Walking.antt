@@ -1,17 +1,16 @@
 -- What a walk with a stack of frames still has to answer. Assumes nothing.
-use Rattle.std.specs.Prelude.{◌≡◌, ℕ, suc, ◌+◌, ◌-◌, ◌*◌, ◌^◌, ◌<◌, ◌≤◌, Bool, false, cond, not, ◌&&◌, List, [], ◌∷◌, length, drop, Some, None, Ok, Err, Option, Result, nat_le, slice_index_or}
+use Rattle.std.specs.Prelude.{◌≡◌, ℕ, suc, ◌+◌, ◌-◌, ◌*◌, ◌<◌, ◌≤◌, Bool, false, cond, not, ◌&&◌, List, [], ◌∷◌, length, drop, Some, None, Ok, Err, Option, Result, nat_le}
 use Rattle.model.specs.declared.node.Node.{Node}
+use Rattle.model.specs.declared.node.Triple.{Triple}
 use Rattle.model.specs.declared.node.Operator.{Operator}
 use Rattle.model.specs.declared.node.Operator.TheVariants.{Union}
 use Rattle.model.specs.declared.point.Primitive.{Primitive}
 use Rattle.model.specs.Families.{Meaning}
 use Rattle.model.specs.Legality.{some_axis, beyond}
-use Rattle.model.specs.Syntax.{Kind, solid, vector, Sort, one, many}
-use Rattle.model.specs.Counts.{count}
-use Rattle.model.specs.Shapes.{Shape, Val, idle, run}
+use Rattle.model.specs.Syntax.{solid, one, many}
+use Rattle.model.specs.Shapes.{Shape, run}
 use Rattle.model.specs.Unrolling.{primitive, apply, belonging}
-use Rattle.probe.specs.declared.spot.Spot.{Spot}
-use Rattle.probe.specs.declared.spot.Spot.TheVariants.{At, Gone}
+use Rattle.program.specs.declared.element.Term.{Term}
 use Rattle.probe.specs.declared.task.Task.{Task}
 use Rattle.probe.specs.declared.task.Frame.{Frame}
 use Rattle.probe.specs.declared.task.Frame.TheVariants.{Left, Right, Rest}
@@ -19,7 +18,7 @@ use Rattle.probe.specs.declared.task.Turn.{Turn}
 use Rattle.probe.specs.declared.task.Turn.TheVariants.{Enter, Leave}
 use Rattle.probe.specs.declared.unprobed.Unprobed.{Unprobed}
 use Rattle.probe.specs.declared.unprobed.Unprobed.TheVariants.{OutOfReach}
-use Rattle.probe.specs.Moving.{moves, Reached}
+use Rattle.probe.specs.Moving.{Spot, moves}
 use Rattle.probe.specs.Terms.{term, Stands}
 
 -- ---- what a family is asked
@@ -51,8 +50,8 @@ pub record Walk : Type 0 where
   pub turns : ℕ
 
 abbrev pub holds : Meaning → Primitive → Spot → Answer
-holds m r (At p) = Some (m.contains r p)
-holds m r Gone = None
+holds m r (Some p) = Some (m.contains r p)
+holds m r None = None
 
 abbrev pub walking : Meaning → Shape Walk
 walking m = record {
@@ -76,23 +75,12 @@ abbrev pub total : ℕ → List Walk → ℕ
 total c [] = 0
 total c (f ∷ fs) = (2560 * f.turns + c) + total c fs
 
--- the same answer at two spots, and no more turns; vectors are equal
-abbrev pub Same : (k : Kind) → Val Walk k → Spot → Val Walk k → Spot → Type 0
-Same solid f s g t = (f.says s ≡ g.says t) × (f.turns ≤ g.turns)
-Same vector v s w t = v ≡ w
-
 module _ (nodes : List Node) where
-  -- a task that can be taken up
-  pub record Ready (s : Sort) (x : Task) : Type 0 where
-    pub stands : Stands nodes s x.node
-    pub index : x.index < 2 ^ 63
-    pub spot : Reached x.spot
-
   -- a frame that has so many below it: it stands behind them in the table
   abbrev pub Sound : ℕ → Frame → Type 0
-  Sound t (Left o x) = (t < x.node) × Ready (one solid) x
+  Sound t (Left o x) = (t < x.term.place) × Stands nodes (one solid) x.term.place
   Sound t (Right o b) = Unit {0}
-  Sound t (Rest x k b) = (t < x.node) × Ready (many solid) x
+  Sound t (Rest x k b) = (t < x.term.place) × Stands nodes (many solid) x.term.place
 
   -- the bottom frame is the first
   abbrev pub AllSound : ℕ → List Frame → Type 0
@@ -101,27 +89,27 @@ module _ (nodes : List Node) where
 
   -- so many frames stand before what is entered
   abbrev pub Low : ℕ → Turn → Type 0
-  Low t (Enter x) = (t ≤ x.node) × Ready (one solid) x
+  Low t (Enter x) = (t ≤ x.term.place) × Stands nodes (one solid) x.term.place
   Low t (Leave b) = Unit {0}
 
   module _ (m : Meaning) where
-    abbrev pub walk : Task → Walk
-    walk x = run (walking m) (term nodes (one solid) x.node) x.index
+    abbrev pub walk : Term → Walk
+    walk t = run (walking m) (term nodes (one solid) t.place) t.index
 
-    abbrev pub walks : Task → List Walk
-    walks x = run (walking m) (term nodes (many solid) x.node) x.index
+    abbrev pub walks : Term → List Walk
+    walks t = run (walking m) (term nodes (many solid) t.place) t.index
 
     abbrev pub said : Task → Answer
-    said x = (walk x).says x.spot
+    said x = (walk x.term).says x.spot
 
     abbrev pub cost : Task → ℕ
-    cost x = 2560 * (walk x).turns + reserve x.node
+    cost x = 2560 * (walk x.term).turns + reserve x.term.place
 
     -- what becomes of an answer
     abbrev pub after : Frame → Answer → Answer
     after (Left o x) a = both o a (said x)
     after (Right o b) a = both o (Some b) a
-    after (Rest x k b) a = both Union (both Union (Some b) a) (any (drop k (walks x)) x.spot)
+    after (Rest x k b) a = both Union (both Union (Some b) a) (any (drop k (walks x.term)) x.spot)
 
     unfoldable pub resume : List Frame → Answer → Answer
     resume [] a = a
@@ -131,7 +119,7 @@ module _ (nodes : List Node) where
     abbrev pub left : Frame → ℕ
     left (Left o x) = 2 + cost x
     left (Right o b) = 1
-    left (Rest x k b) = 1 + total (reserve x.node) (drop k (walks x))
+    left (Rest x k b) = 1 + total (reserve x.term.place) (drop k (walks x.term))
 
     unfoldable pub work : List Frame → ℕ
     work [] = 0
@@ -156,16 +144,12 @@ module _ (nodes : List Node) where
     Turns fs t gs (Ok u) = Goes fs t gs u
     Turns fs t gs (Err e) = (e ≡ OutOfReach) × (resume fs (turn_says t) ≡ None)
 
-    -- the task y is the k-th element of the list x
-    pub record Led (κ : Kind) (x : Task) (k : ℕ) (y : Task) : Type 0 where
-      pub ready : Ready (one κ) y
-      pub behind : x.node < y.node
-      pub same : Same κ (run (walking m) (term nodes (one κ) y.node) y.index) y.spot (slice_index_or (run (walking m) (term nodes (many κ) x.node) x.index) k (idle (walking m) κ)) x.spot
-
-  -- the k-th element of a list can be sought
-  pub record Sought (κ : Kind) (x : Task) (k : ℕ) : Type 0 where
-    pub ready : Ready (many κ) x
-    pub few : k < count (term nodes (many κ) x.node)
+    -- the task y says what the walk w says at the spot of x, in no more turns, and stands behind x
+    pub record Leads (x : Task) (w : Walk) (y : Task) : Type 0 where
+      pub stands : Stands nodes (one solid) y.term.place
+      pub behind : x.term.place < y.term.place
+      pub same : said y ≡ w.says x.spot
+      pub turns : (walk y.term).turns ≤ w.turns
 
 abbrev pub verdict : Answer → Result Bool Unprobed
 verdict None = Err OutOfReach

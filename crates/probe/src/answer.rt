@@ -1,24 +1,36 @@
 // Whether a part contains a point.
-ghost use Rattle.std.specs.Prelude.{◌≡◌};
+ghost use Rattle.std.specs.Prelude.{◌≡◌, cond, Some, None};
 ghost use Rattle.model.specs.Tables.{held};
 ghost use Rattle.model.specs.Unrolling.{unroll};
-ghost use Rattle.probe.specs.Probing.{answer, far};
+ghost use Rattle.probe.specs.Probing.{answer, far, point};
 
-use super::exact::some_beyond;
 use super::stack::Stack;
 use super::unprobed::Unprobed;
-use super::walk::walk;
-use family::Family;
+use super::walk::Walker;
+use family::{Family, Reachable};
 use model::{Point, Triple};
 use program::Part;
 
 /// The largest coordinate of a point that is probed, in micrometres.
 const FARTHEST: u64 = 1_000_000;
 
+// Whether some coordinate is too large.
 fn is_far(at: Triple) -> bool
     ensures { result ≡ far at }
 {
-    some_beyond(FARTHEST, at.x as i128, at.y as i128, at.z as i128)
+    let Triple { x, y, z } = at;
+    FARTHEST < x.unsigned_abs() || FARTHEST < y.unsigned_abs() || FARTHEST < z.unsigned_abs()
+}
+
+// A point of whole micrometres, if it is not too far. Every such point is in reach.
+fn near(at: Triple) -> Option<Reachable>
+    ensures { result ≡ cond (far at) None (Some (point at)) }
+{
+    if is_far(at) {
+        return None;
+    }
+    let Triple { x, y, z } = at;
+    Reachable::new(Point { x, y, z, w: 1 })
 }
 
 /// Whether a part contains a point of whole micrometres. A point that gets out of reach after some
@@ -31,16 +43,12 @@ pub fn probe<F: Family>(
 ) -> Result<bool, Unprobed>
     ensures { result ≡ answer (F.Family.meaning family.now) (unroll (held part.now.layout.table)) at }
 {
-    if is_far(at) {
+    let Some(at) = near(at) else {
         return Err(Unprobed::Far);
-    }
-    let nodes = part.layout.table.nodes.as_slice();
-    let measures = part.layout.measures.as_slice();
-    let point = Point {
-        x: at.x,
-        y: at.y,
-        z: at.z,
-        w: 1,
     };
-    walk(nodes, measures, family, point, &mut stack.frames)
+    let walker = Walker {
+        layout: &part.layout,
+        family,
+    };
+    walker.run(at, stack)
 }

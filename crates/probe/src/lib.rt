@@ -2,7 +2,7 @@
 #![tactic(auto)]
 
 mod answer;
-mod exact;
+mod asked;
 mod item;
 mod spot;
 mod stack;

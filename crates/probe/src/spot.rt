@@ -1,51 +1,19 @@
 // Where a point gets to by placements.
-ghost use Rattle.std.specs.Prelude.{◌≡◌, ◌^◌, ◌<◌, ◌≤◌, true, ◌-ℤ◌, ◌*ℤ◌, unsigned_abs};
-ghost use Rattle.model.specs.Placements.{at as at_index, translated, rotated, quarter as quarter_of, quarters};
+ghost use Rattle.std.specs.Prelude.{◌≡◌, ◌≤◌, ◌-ℤ◌, ◌*ℤ◌, unsigned_abs};
+ghost use Rattle.model.specs.Axes.{exact};
+ghost use Rattle.model.specs.Placements.{translated, rotated, quarter as quarter_of, quarters};
 ghost use Rattle.model.specs.Families.{rescaled, signed};
-ghost use Rattle.family.specs.Reaching.{between, in_reach};
-ghost use Rattle.probe.specs.Moving.{spot_of, moves, Reached, Small, Turned};
+ghost use Rattle.probe.specs.Moving.{spot_of, moves, Turned};
 
-use super::exact::{bounded_at, value};
-use model::{Linear, Placement, Point, Triple};
-
-/// The largest coordinate of a point in reach.
-const FARTHEST: i64 = 1_000_000_000;
-
-/// The largest divisor of a point in reach.
-const FINEST: i64 = 1_000;
+use family::Reachable;
+use model::{Placement, Point, Wide};
+use program::narrowed;
 
 /// A longer way leads out of reach from every point in reach.
-const LONGEST_WAY: u64 = 2_000_000_000;
+const LONGEST_WAY: u32 = 2_000_000_000;
 
 /// A larger factor makes every divisor too large, or 0.
-const LARGEST_FACTOR: u64 = 1_000;
-
-/// A point in reach, or the trace of one that got out of it.
-#[derive(Clone, Copy)]
-pub(crate) enum Spot {
-    At(Point),
-    Gone,
-}
-
-fn within(least: i64, value: i64, most: i64) -> bool
-    ensures { result ≡ between least value most }
-{
-    least <= value && value <= most
-}
-
-fn reached(at: Point) -> Spot
-    ensures { result ≡ spot_of at }
-{
-    if within(-FARTHEST, at.x, FARTHEST)
-        && within(-FARTHEST, at.y, FARTHEST)
-        && within(-FARTHEST, at.z, FARTHEST)
-        && within(1, at.w, FINEST)
-    {
-        Spot::At(at)
-    } else {
-        Spot::Gone
-    }
-}
+const LARGEST_FACTOR: u32 = 1_000;
 
 // A coordinate less so many times the divisor.
 fn shifted(coordinate: i64, by: i64, w: i64) -> i64
@@ -55,19 +23,6 @@ fn shifted(coordinate: i64, by: i64, w: i64) -> i64
     ensures { result ≡ coordinate -ℤ by *ℤ w }
 {
     coordinate - by * w
-}
-
-fn translate(by: Triple, at: Point) -> Point
-    requires near { in_reach at ≡ true }
-    requires small { Small 2000000000 by }
-    ensures { result ≡ translated by at }
-{
-    Point {
-        x: shifted(at.x, by.x, at.w),
-        y: shifted(at.y, by.y, at.w),
-        z: shifted(at.z, by.z, at.w),
-        w: at.w,
-    }
 }
 
 fn product(a: i64, b: i64, c: i64) -> i64
@@ -88,30 +43,11 @@ fn with_sign(m: i64, value: i64) -> i64
     if m >= 0 { value } else { -value }
 }
 
-fn rescale(by: Triple, at: Point) -> Point
-    requires near { in_reach at ≡ true }
-    requires small { Small 1000 by }
-    ensures { result ≡ rescaled by at }
-{
-    let m = product(by.x, by.y, by.z);
-    let divisor = at.w * by.x;
-    Point {
-        x: with_sign(m, product(at.x, by.y, by.z)),
-        y: with_sign(m, product(at.y, by.x, by.z)),
-        z: with_sign(m, product(at.z, by.x, by.y)),
-        w: with_sign(m, product(divisor, by.y, by.z)),
-    }
-}
-
 /// The quarters in a number of degrees, rounded down.
 fn quarter(degrees: i128) -> u8
     ensures { quarters result ≡ quarter_of degrees }
 {
-    if degrees >= 0 {
-        (degrees as u128 / 90 % 4) as u8
-    } else {
-        3 - ((-(degrees + 1)) as u128 / 90 % 4) as u8
-    }
+    degrees.div_euclid(90).rem_euclid(4) as u8
 }
 
 /// A plane turned back by so many quarters.
@@ -127,62 +63,55 @@ fn turn_back(quarter: u8, a: i64, b: i64) -> (i64, i64)
     }
 }
 
-fn slid(vector: Linear, index: u64, at: Point) -> Spot
-    requires few { index < 2 ^ 63 }
-    requires near { in_reach at ≡ true }
-    ensures { result ≡ spot_of (translated (at_index index vector) at) }
+fn slid(vector: Wide, at: Reachable) -> Option<Reachable>
+    ensures { result ≡ spot_of (translated (exact vector) at) }
 {
-    match bounded_at(LONGEST_WAY, vector, index) {
-        Some(by) => reached(translate(by, at)),
-        None => Spot::Gone,
-    }
-}
-
-fn scaled(vector: Linear, index: u64, at: Point) -> Spot
-    requires few { index < 2 ^ 63 }
-    requires near { in_reach at ≡ true }
-    ensures { result ≡ spot_of (rescaled (at_index index vector) at) }
-{
-    match bounded_at(LARGEST_FACTOR, vector, index) {
-        Some(by) => reached(rescale(by, at)),
-        None => Spot::Gone,
-    }
-}
-
-fn turned(vector: Linear, index: u64, at: Point) -> Spot
-    requires few { index < 2 ^ 63 }
-    requires near { in_reach at ≡ true }
-    ensures { result ≡ spot_of (rotated (at_index index vector) at) }
-{
-    let Linear { constant, slope } = vector;
-    let about_z = turn_back(quarter(value(constant.z, slope.z, index)), at.x, at.y);
-    let about_y = turn_back(quarter(value(constant.y, slope.y, index)), at.z, about_z.0);
-    let about_x = turn_back(
-        quarter(value(constant.x, slope.x, index)),
-        about_z.1,
-        about_y.0,
-    );
-    reached(Point {
-        x: about_y.1,
-        y: about_x.0,
-        z: about_x.1,
-        w: at.w,
+    let Point { x, y, z, w } = at.point();
+    let by = narrowed(LONGEST_WAY, vector)?;
+    Reachable::new(Point {
+        x: shifted(x, by.x, w),
+        y: shifted(y, by.y, w),
+        z: shifted(z, by.z, w),
+        w,
     })
 }
 
-/// Where a placement by a vector at an index takes a spot.
-pub(crate) fn moved(placement: Placement, vector: Linear, index: u64, spot: Spot) -> Spot
-    requires few { index < 2 ^ 63 }
-    requires near { Reached spot }
-    ensures is { result ≡ moves placement (at_index index vector) spot }
-    ensures near { Reached result }
+fn scaled(vector: Wide, at: Reachable) -> Option<Reachable>
+    ensures { result ≡ spot_of (rescaled (exact vector) at) }
 {
-    match spot {
-        Spot::Gone => Spot::Gone,
-        Spot::At(at) => match placement {
-            Placement::Translate => slid(vector, index, at),
-            Placement::Scale => scaled(vector, index, at),
-            Placement::Rotate => turned(vector, index, at),
-        },
+    let Point { x, y, z, w } = at.point();
+    let by = narrowed(LARGEST_FACTOR, vector)?;
+    let m = product(by.x, by.y, by.z);
+    Reachable::new(Point {
+        x: with_sign(m, product(x, by.y, by.z)),
+        y: with_sign(m, product(y, by.x, by.z)),
+        z: with_sign(m, product(z, by.x, by.y)),
+        w: with_sign(m, product(w * by.x, by.y, by.z)),
+    })
+}
+
+fn turned(vector: Wide, at: Reachable) -> Option<Reachable>
+    ensures { result ≡ spot_of (rotated (exact vector) at) }
+{
+    let Point { x, y, z, w } = at.point();
+    let (x, y) = turn_back(quarter(vector.z), x, y);
+    let (z, x) = turn_back(quarter(vector.y), z, x);
+    let (y, z) = turn_back(quarter(vector.x), y, z);
+    Reachable::new(Point { x, y, z, w })
+}
+
+/// Where a placement by a vector takes a spot; what is out of reach stays so.
+pub(crate) fn moved(
+    placement: Placement,
+    vector: Wide,
+    spot: Option<Reachable>,
+) -> Option<Reachable>
+    ensures { result ≡ moves placement (exact vector) spot }
+{
+    let at = spot?;
+    match placement {
+        Placement::Translate => slid(vector, at),
+        Placement::Scale => scaled(vector, at),
+        Placement::Rotate => turned(vector, at),
     }
 }

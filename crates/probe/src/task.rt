@@ -1,13 +1,25 @@
 // What a walk still has to do.
-use super::spot::Spot;
-use model::Operator;
+ghost use Rattle.std.specs.Prelude.{◌≡◌};
 
-/// A term of the table, by its first node, at an index of the loop around it and at a spot.
+use family::Reachable;
+use model::Operator;
+use program::Term;
+
+/// A term of the program, and where the point has got to on its way there: nowhere, if it got out
+/// of reach.
 #[derive(Clone, Copy)]
 pub(crate) struct Task {
-    pub(crate) node: usize,
-    pub(crate) index: u64,
-    pub(crate) spot: Spot,
+    pub(crate) term: Term,
+    pub(crate) spot: Option<Reachable>,
+}
+
+impl Task {
+    /// Another term at the same spot.
+    pub(crate) fn to(&self, term: Term) -> Task
+        ensures { result ≡ record { term = term; spot = self.now.spot } }
+    {
+        Task { term, ..*self }
+    }
 }
 
 /// What becomes of the answer of the term that is walked.

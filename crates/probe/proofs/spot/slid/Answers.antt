@@ -1,22 +1,53 @@
-use Rattle.std.proofs.Common.{sym, ap, ◌∙◌, subst}
-use Rattle.model.specs.declared.node.Triple.{Triple}
-use Rattle.model.specs.Placements.{at, translated}
-use Rattle.probe.specs.Moving.{Small, spot_of}
-use Rattle.probe.proofs.Bounds.{bounded_some, bounded_none}
+use Rattle.std.proofs.Common.{◌≡◌, ◌-ℤ◌, ◌*ℤ◌, sym, ap, ap₂, ◌∙◌, arith, w64, SFits, rules}
+use Rattle.std.proofs.lemmas.Int.{to_z-of_z}
+use Rattle.model.specs.Axes.{exact}
+use Rattle.model.specs.Placements.{translated}
+use Rattle.family.specs.Reaching.{in_reach}
+use Rattle.family.proofs.Fits.{reached}
+use Rattle.probe.specs.Moving.{spot_of}
+use Rattle.probe.proofs.Bounds.{kept, bounded_some, bounded_none}
 use Rattle.probe.proofs.Outside.{short_way, gone}
 use Rattle.probe.proofs.spot.slid.Goals as goal
 
-pub translate-requires : goal.translate-requires
-translate-requires c =
-    let b = bounded_some 2000000000 (at c.args.index c.args.vector) c.in-Some.by c.in-Some.ensures in
-    record { near = c.requires.near; small = (let P : Triple → Type 0 = λ u. Small 2000000000 u in subst P (sym b.0) b.1) }
+pub returns-in_err-by : goal.returns-in_err-by
+returns-in_err-by c =
+    let v = exact c.args.vector in
+    let near = ap in_reach (sym c.point-x.ensures.is) ∙ c.point-x.ensures.near in
+    c.from_residual.ensures ∙ gone (translated v c.args.at) (λ e. bounded_none 2000000000 v c.in_err-by.ensures (short_way v c.args.at near e))
 
-pub returns-in-Some : goal.returns-in-Some
-returns-in-Some c =
-    let b = bounded_some 2000000000 (at c.args.index c.args.vector) c.in-Some.by c.in-Some.ensures in
-    c.reached.ensures ∙ ap spot_of (c.translate.ensures ∙ ap (λ (u : Triple). translated u c.args.at) b.0)
+pub shifted-requires : goal.shifted-requires
+shifted-requires c =
+    let p = c.point-x.result in let r = reached p c.point-x.ensures.near in let b = bounded_some 2000000000 (exact c.args.vector) c.in_ok-by.by c.in_ok-by.ensures in
+    record { near = kept p.x 1000000000 r.x (omega arith); small = kept c.in_ok-by.by.x 2000000000 b.1.x (omega arith); fine = kept p.w 1000 r.w (omega arith) }
 
-pub returns-in-None : goal.returns-in-None
-returns-in-None c =
-    let v = at c.args.index c.args.vector in
-    gone (translated v c.args.at) (λ e. bounded_none 2000000000 v c.in-None.ensures (short_way v c.args.at c.requires.near e))
+pub shifted-requires-2 : goal.shifted-requires-2
+shifted-requires-2 c =
+    let p = c.point-x.result in let r = reached p c.point-x.ensures.near in let b = bounded_some 2000000000 (exact c.args.vector) c.in_ok-by.by c.in_ok-by.ensures in
+    record { near = kept p.y 1000000000 r.y (omega arith); small = kept c.in_ok-by.by.y 2000000000 b.1.y (omega arith); fine = kept p.w 1000 r.w (omega arith) }
+
+pub shifted-requires-3 : goal.shifted-requires-3
+shifted-requires-3 c =
+    let p = c.point-x.result in let r = reached p c.point-x.ensures.near in let b = bounded_some 2000000000 (exact c.args.vector) c.in_ok-by.by c.in_ok-by.ensures in
+    record { near = kept p.z 1000000000 r.z (omega arith); small = kept c.in_ok-by.by.z 2000000000 b.1.z (omega arith); fine = kept p.w 1000 r.w (omega arith) }
+
+pub returns : goal.returns
+returns c =
+    let p = c.point-x.result in let u = c.in_ok-by.by in
+    let b = bounded_some 2000000000 (exact c.args.vector) u c.in_ok-by.ensures in
+    let fx : SFits w64 p.x = search rules in
+    let fy : SFits w64 p.y = search rules in
+    let fz : SFits w64 p.z = search rules in
+    let fw : SFits w64 p.w = search rules in
+    let gx : SFits w64 u.x = search rules in
+    let gy : SFits w64 u.y = search rules in
+    let gz : SFits w64 u.z = search rules in
+    let x : c.shifted.result ≡ p.x -ℤ u.x *ℤ p.w = simp to_z-of_z at c.shifted.ensures in
+    let y : c.shifted-2.result ≡ p.y -ℤ u.y *ℤ p.w = simp to_z-of_z at c.shifted-2.ensures in
+    let z : c.shifted-3.result ≡ p.z -ℤ u.z *ℤ p.w = simp to_z-of_z at c.shifted-3.ensures in
+    c.new.ensures
+    ∙ ap spot_of ((λ i. record {
+      x = (to_z-of_z w64 c.shifted.result (search rules) ∙ x) i;
+      y = (to_z-of_z w64 c.shifted-2.result (search rules) ∙ y) i;
+      z = (to_z-of_z w64 c.shifted-3.result (search rules) ∙ z) i;
+      w = to_z-of_z w64 p.w fw i;
+    }) ∙ ap₂ translated b.0 c.point-x.ensures.is)
