@@ -1,7 +1,8 @@
 -- A test of every number below another one. Assumes nothing.
 use Rattle.std.proofs.Common.{◌≡◌, ℕ, zero, suc, ◌+◌, ◌<◌, min, Bool, true, false, ◌||◌, List, [], ◌∷◌, ℤ, Some, None, Option, sym, refl, ap, ◌∙◌, inl, inr, zero-add, arith}
 use Rattle.std.specs.List.{list_any, range_with_len}
-use Rattle.std.proofs.lemmas.Bool.{or_right, cases_Bool}
+use Rattle.std.proofs.lemmas.Bool.{cases_Bool}
+use Rattle.std.proofs.lemmas.Bool.Decides.{nat_tests}
 use Rattle.std.proofs.lemmas.List.Folds.{list_any_at}
 use Rattle.std.proofs.lemmas.List.FromFn.{length-range_with_len, get_or-range_with_len}
 use Rattle.model.specs.Shapes.{natural, from}
@@ -52,12 +53,7 @@ first_is_enough f (suc n) same =
 
 -- tests of several things at once are tests of each
 swap_or : (a b c d e f : Bool) → (a || (b || c)) || (d || (e || (f || false))) ≡ (a || d) || ((b || e) || ((c || f) || false))
-swap_or true b c d e f = refl
-swap_or false b c true e f = or_right (b || c) true refl
-swap_or false true c false e f = refl
-swap_or false false c false true f = or_right c true refl
-swap_or false false true false false f = refl
-swap_or false false false false false f = refl
+swap_or a b c d e f = grind (arith, nat_tests)
 
 some_of_three : (f g h : ℕ → Bool) (l : List ℕ) → list_any (λ i. f i || (g i || h i)) l ≡ list_any f l || (list_any g l || (list_any h l || false))
 some_of_three f g h [] = refl

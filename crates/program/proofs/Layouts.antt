@@ -1,6 +1,6 @@
 -- What is told of the program that a layout holds. Assumes nothing.
-use Rattle.std.proofs.Common.{◌≡◌, ℕ, ◌+◌, ◌<◌, ◌≤◌, min, ltb, [], ◌∷◌, ◌++◌, length, get_or, drop, vec_items, vec_len, sym, ap, ◌∙◌, subst, inl, inr, append-nil, arith}
-use Rattle.std.proofs.lemmas.Bool.{cases_lt, lt-ltb, le-ltb}
+use Rattle.std.proofs.Common.{◌≡◌, ℕ, ◌+◌, ◌<◌, ◌≤◌, min, ltb, [], ◌∷◌, ◌++◌, length, get_or, drop, vec_items, vec_len, sym, ap, ◌∙◌, subst, append-nil, arith}
+use Rattle.std.proofs.lemmas.Bool.Decides.{nat_tests}
 use Rattle.std.proofs.lemmas.List.{drop_more}
 use Rattle.model.specs.declared.node.Node.{Node}
 use Rattle.model.specs.declared.table.Table.{Table}
@@ -38,8 +38,4 @@ tells_whole l = tells_layout l 0 (one solid) (held l.table) [] (stands l.table)
 
 -- a number that is cut off at the cap is past the limit if the number is
 pub past_cap : (w : ℕ) → ltb most_unrolled (min w cap) ≡ ltb most_unrolled w
-past_cap w =
-    elim (cases_lt most_unrolled w) [
-      | inl p ↦ lt-ltb most_unrolled (min w cap) (omega arith) ∙ sym (lt-ltb most_unrolled w p)
-      | inr p ↦ le-ltb most_unrolled (min w cap) (omega arith) ∙ sym (le-ltb most_unrolled w p)
-    ]
+past_cap w = grind (arith, nat_tests)

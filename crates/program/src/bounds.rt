@@ -65,6 +65,7 @@ fn turns_around(around: Option<i64>) -> u64
     }
 }
 
+// Three tests: `any` over an array of the three is no shorter, and its answer needs a proof by hand.
 fn is_far(v: Triple) -> bool
     ensures { result ≡ some_axis (beyond 1000000) v }
 {

@@ -62,6 +62,7 @@ impl Layout {
     {
         match law {
             Law::Size => self.is_too_large().then_some(0),
+            // No guard: behind one the proof does not learn which law it is.
             Law::Lengths => {
                 if self.unrolls_too_far() {
                     Some(0)

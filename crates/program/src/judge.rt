@@ -28,6 +28,7 @@ pub(crate) fn breaks_numbers(node: Node, context: Context) -> bool
             || is_wild(Placement::Translate, context, sizes),
         Node::Place(placement, v) => is_wild(placement, context, v),
         Node::Vector(v) => is_wild(context.placement, context, v),
+        // Two arms: one pattern for both gets no proof.
         Node::Repeat(count) => is_uncounted(count),
         Node::Tabulate(count) => is_uncounted(count),
         _ => false,

@@ -41,6 +41,7 @@ impl Parts {
     {
         match node {
             Node::List(count) | Node::Sort(count) | Node::Unsort(count) => count as u128,
+            // Two arms, here and below: one pattern for both gets no proof.
             Node::Repeat(count) => count.max(0) as u128,
             Node::Tabulate(count) => count.max(0) as u128,
             Node::Concat => self.first + self.second,

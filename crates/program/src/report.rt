@@ -7,10 +7,10 @@ use super::unloaded::Unloaded;
 use model::{Layer, Refusal, Report};
 
 impl From<Refusal> for Unloaded {
-    ghost from_gives = { λ refusal unloaded. unloaded ≡ Unread refusal };
+    ghost from_gives = { λ unread unloaded. unloaded ≡ Unread unread };
 
-    fn from(refusal: Refusal) -> Unloaded {
-        Unloaded::Unread(refusal)
+    fn from(unread: Refusal) -> Unloaded {
+        Unloaded::Unread(unread)
     }
 }
 
