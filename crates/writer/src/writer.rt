@@ -132,7 +132,8 @@ fn put_parts(sink: &mut Sink, nodes: &[Node], place: usize, count: usize) -> usi
 fn put_program(sink: &mut Sink, table: &Table)
     ensures { Puts (text_of (held table.now)) sink.old sink.new }
 {
-    put_term(sink, table.nodes.as_slice(), 0);
+    let nodes = table.nodes.as_slice();
+    put_term(sink, nodes, 0);
 }
 
 /// Writes the text of the program held at the buffer's start, and answers its length. A buffer that
