@@ -34,7 +34,7 @@ overflow_add-self-2 c =
 pub invariant_of-self-2 : goal.invariant_of-self-2
 invariant_of-self-2 c =
     let m = got_ahead c.args.self.now.text.now (c.args.self.now.at + c.separators_len.result) _ _ c.in_ok-token.token.span (omega arith) c.in_ok-token.ensures refl in
-    record { within = m.1 }
+    record { within = m.1; short = c.args.self.now.short }
 
 pub returns-clause-nexts : goal.returns-clause-nexts
 returns-clause-nexts c =
