@@ -1,5 +1,5 @@
 -- What a part of the reading has read, and what it leaves to be judged. Assumes nothing.
-use Rattle.std.specs.Prelude.{◌≡◌, ℕ, ◌<◌, ◌≤◌, Bool, true, false, List, ◌∷◌, ◌++◌, IfOk, Ok, Err, Result, OnOk}
+use Rattle.std.specs.Prelude.{◌≡◌, ℕ, ◌<◌, Bool, true, false, List, ◌∷◌, ◌++◌, IfOk, Ok, Err, Result, OnOk}
 use Rattle.model.specs.declared.word.Mark.TheVariants.{Open, Close, Left, Right, Comma}
 use Rattle.model.specs.declared.node.Node.{Node}
 use Rattle.model.specs.declared.refusal.Refusal.{Refusal}

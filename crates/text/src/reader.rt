@@ -22,7 +22,7 @@ fn is_close(token: Token) -> bool
     matches!(token.kind, TokenKind::Mark(Mark::Close))
 }
 
-// A text, and the draft that its nodes go to.
+// A text that is being read, and the draft that its nodes go to.
 #[derive(Drop)]
 struct Reader<'a, 'b> {
     lexer: Lexer<'a>,
@@ -30,7 +30,7 @@ struct Reader<'a, 'b> {
 }
 
 impl Reader<'_, '_> {
-    // Whether there is room for one more node, whose first token stands at `span`, with `levels` left.
+    // Refuses one more node past the limits, whose first token stands at `span`, with `levels` left.
     fn room_for(&self, levels: u16, span: Span) -> Result<(), Refusal>
         ensures { elim result [ Ok _ ↦ room levels (count self.now) ≡ true | Err f ↦ (room levels (count self.now) ≡ false) × (f ≡ Refusal.TooLarge span) ] }
     {
@@ -54,6 +54,7 @@ impl Reader<'_, '_> {
         place
     }
 
+    // With `levels` left for it and its parts.
     #[cycle(reading)]
     fn element(&mut self, element: Element, levels: u16) -> Result<(), Refusal>
         ensures moved { Moved self.old result self.new }

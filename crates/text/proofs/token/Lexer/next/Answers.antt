@@ -1,12 +1,10 @@
-use Rattle.std.proofs.Common.{◌≡◌, ◌+◌, ◌≤◌, ℕ, List, length, drop, refl, sym, ap, ◌∙◌, arith, rules}
+use Rattle.std.proofs.Common.{◌≡◌, ◌+◌, ℕ, List, length, refl, ap, ◌∙◌, arith}
 use Rattle.std.specs.List.{prefix_len, slice_range}
 use Rattle.std.proofs.lemmas.Result.{err_from_is_err_and}
 use Rattle.std.proofs.lemmas.Slice.{between_to_end}
 use Rattle.model.specs.Bytes.{is_sep}
-use Rattle.model.specs.Feed as F
 use Rattle.model.specs.Lexing.{fed, feed, past_seps}
 use Rattle.model.proofs.Feeds.{got_ahead, feed_end, feed_token}
-use Rattle.text.specs.Lexer.{token_of}
 use Rattle.text.proofs.token.Lexer.next.Goals as goal
 
 -- the first byte that is no separator
