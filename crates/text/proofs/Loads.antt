@@ -1,5 +1,5 @@
 -- What a table holds once a whole text was read. Assumes nothing.
-use Rattle.std.proofs.Common.{◌≡◌, ℕ, ◌≤◌, true, List, [], ◌∷◌, ◌++◌, length, sym, ap, ◌∙◌, subst, append-nil, arith}
+use Rattle.std.proofs.Common.{Vec, vec_items, ◌≡◌, ℕ, ◌≤◌, true, List, [], ◌∷◌, ◌++◌, length, sym, ap, ◌∙◌, subst, append-nil, arith}
 use Rattle.model.specs.Limits.{most_bytes}
 use Rattle.model.specs.declared.node.Node.{Node}
 use Rattle.model.specs.Syntax.{one, solid, Exprs, none, more, Solid, size}
@@ -32,9 +32,13 @@ loaded_as text ns n e q says o =
       accepted = subst (Accepts text) (sym p) a;
     }
 
-pub loaded : (text : List ℕ) (ns : List Node) (n : ℕ) → Read (one solid ∷ []) (said (feed_of text)) [] [] ns → length text ≤ most_bytes → grammar.judged (feed_of text) ≡ grammar.whole n → Loaded text ns
+loaded : (text : List ℕ) (ns : List Node) (n : ℕ) → Read (one solid ∷ []) (said (feed_of text)) [] [] ns → length text ≤ most_bytes → grammar.judged (feed_of text) ≡ grammar.whole n → Loaded text ns
 unfolding row flattens
 loaded text ns n r short q = go r.which r.made r.text
   where
     go : (es : Exprs (one solid ∷ [])) → ns ≡ flattens es → said (feed_of text) ≡ row es ++ [] → Loaded text ns
     go (more e none) m t = loaded_as text ns n e (m ∙ append-nil (flatten e)) (t ∙ simp append-nil) (outcome_short text short ∙ q)
+
+-- the same of a vector that took the nodes over
+pub loaded_in : {Z : Type 0} (text : List ℕ) (n : ℕ) (v w : Vec Node Z) → w ≡ v → Read (one solid ∷ []) (said (feed_of text)) [] [] (vec_items v) → length text ≤ most_bytes → grammar.judged (feed_of text) ≡ grammar.whole n → Loaded text (vec_items w)
+loaded_in text n v w same r short q = subst (λ x. Loaded text (vec_items x)) (sym same) (loaded text (vec_items v) n r short q)

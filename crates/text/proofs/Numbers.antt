@@ -1,5 +1,5 @@
 -- What runs of digits are. Assumes nothing.
-use Rattle.std.proofs.Common.{◌≡◌, ℕ, zero, suc, ◌^◌, ◌<◌, ◌≤◌, true, not, eqb, ltb, leb, ◌&&◌, false, ◌⊎◌, ◌+◌, ◌-◌, List, [], ◌∷◌, length, get_or, take, drop, Result, Ok, sym, refl, ap, ◌∙◌, inl, inr, arith}
+use Rattle.std.proofs.Common.{◌≡◌, ℕ, zero, suc, ◌^◌, ◌<◌, ◌≤◌, true, not, eqb, ltb, leb, ◌&&◌, false, ◌+◌, ◌-◌, List, [], ◌∷◌, length, get_or, take, drop, Result, Ok, sym, refl, ap, ◌∙◌, inl, inr, arith}
 use Rattle.std.specs.Char.{is_ascii_digit}
 use Rattle.std.specs.List.{list_all}
 use Rattle.std.specs.Str.Parse.{digits_value, ParsesUnsigned}

@@ -9,11 +9,6 @@ use Rattle.model.specs.Syntax as S
 use Rattle.model.specs.Nodes.{node_of, flatten, flattens}
 use Rattle.model.specs.Tokens.{Token, word, number, mark, opening, closing, tokens, row}
 use Rattle.model.specs.Grammar.{Goal, element, elements, move}
-use Rattle.text.specs.declared.form.Element.{Element}
-use Rattle.text.specs.declared.form.Element.TheVariants as e
-use Rattle.text.specs.declared.form.ListForm.{ListForm}
-use Rattle.text.specs.declared.form.ListForm.TheVariants as l
-use Rattle.text.specs.Forms.{kind_of, Gives}
 use Rattle.text.specs.Reading.{Read, closes}
 
 clash : {A : Type 0} → ◌≡◌ {A = ℕ} 0 1 → A

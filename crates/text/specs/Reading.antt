@@ -1,5 +1,5 @@
 -- What a part of the reading has read, and what it leaves to be judged. Assumes nothing.
-use Rattle.std.specs.Prelude.{◌≡◌, ℕ, ◌<◌, ◌≤◌, Bool, true, false, List, ◌∷◌, ◌++◌, IfOk, Ok, Err, Result, OnOk}
+use Rattle.std.specs.Prelude.{◌≡◌, ℕ, ◌<◌, Bool, true, false, List, ◌∷◌, ◌++◌, IfOk, Ok, Err, Result, OnOk}
 use Rattle.model.specs.declared.word.Mark.TheVariants.{Open, Close, Left, Right, Comma}
 use Rattle.model.specs.declared.node.Node.{Node}
 use Rattle.model.specs.declared.refusal.Refusal.{Refusal}
@@ -20,10 +20,6 @@ after (Err f) v = refused f
 -- the same text is read on, and bytes of it were read
 abbrev pub Ahead : {X : Type 0} → Lexer → Result X Refusal → Lexer → Type 0
 Ahead a r b = (b.text.now ≡ a.text.now) × OnOk r (a.at < b.at)
-
--- the same text is read on, and the reader has not gone back
-abbrev pub Onward : {X : Type 0} → Lexer → Result X Refusal → Lexer → Type 0
-Onward a r b = (b.text.now ≡ a.text.now) × OnOk r (a.at ≤ b.at)
 
 -- these tokens were taken
 abbrev pub Took : {X : Type 0} → (X → List Token) → Lexer → Result X Refusal → Lexer → Type 0
@@ -57,11 +53,3 @@ pub record Read (ss : List Sort) (ts ts' : List Token) (old new : List Node) : T
   pub which : Exprs ss
   pub text : ts ≡ row which ++ ts'
   pub made : new ≡ old ++ flattens which
-
--- expressions of these sorts were read, whose tokens begin ts
-abbrev pub HasRead : {X : Type 0} → List Sort → List Token → Result X Refusal → Lexer → List Node → List Node → Type 0
-HasRead ss ts r b old new = OnOk r (Read ss ts (said (ahead b)) old new)
-
--- with m nodes the outcome is what the rest of the text has, or the refusal
-abbrev pub Leads : {X : Type 0} → (List Goal → Outcome) → Result X Refusal → Lexer → ℕ → Type 0
-Leads from r b m = (gs : List Goal) → from gs ≡ after r (run (ahead b) gs m)

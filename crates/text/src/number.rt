@@ -8,20 +8,21 @@ ghost use Rattle.text.specs.Lexer.{pair};
 use super::byte::digits_len;
 use model::Numeral;
 
+// Whether the bytes are digits.
 fn all_digits(run: &[u8]) -> bool
     ensures { result ≡ all_ascii_digits run.now }
 {
     run.iter().all(u8::is_ascii_digit)
 }
 
-// One to seven digits, the first not 0.
+// Whether they are one to seven digits, the first not 0.
 fn is_natural(run: &[u8]) -> bool
     ensures { result ≡ natural run.now }
 {
     !run.is_empty() && run.len() <= 7 && run[0] != b'0' && all_digits(run)
 }
 
-// Their value.
+// The value of such a run.
 fn natural_of(run: &[u8]) -> Option<u32>
     ensures value { result ≡ natural_of run.now }
     ensures small { IfSome result (λ n. n ≤ 9999999) }
@@ -44,7 +45,7 @@ fn negative(digits: &[u8]) -> Option<i64>
     natural_of(digits).map(|n| -i64::from(n))
 }
 
-// Such digits, or a minus and such digits.
+// A natural number, or a minus and one.
 fn amount_of(run: &[u8]) -> Option<i64>
     ensures { result ≡ amount_of run.now }
 {
@@ -54,7 +55,7 @@ fn amount_of(run: &[u8]) -> Option<i64>
     }
 }
 
-// A `+` or `-` and such digits.
+// A `+` or a `-`, and a natural number.
 fn change_of(run: &[u8]) -> Option<i64>
     ensures { result ≡ change_of run.now }
 {

@@ -9,7 +9,8 @@ ghost use Rattle.model.specs.Syntax.{solid, vector, one, many};
 ghost use Rattle.model.specs.Tokens as tokens;
 ghost use Rattle.text.specs.Forms.{kind_of};
 ghost use Rattle.text.specs.Lexer.{ahead, token_of};
-ghost use Rattle.text.specs.Reading.{after, closes, judge, Ahead, HasRead, Leads, Onward, Read};
+ghost use Rattle.text.specs.Reading.{after, closes, judge, Read};
+ghost use Rattle.text.specs.Building.{count, left, HasRead, Leads, Moved, Onward};
 
 use super::form::{Element, ListForm, SolidForm, list_form, solid_form};
 use super::token::{Lexer, Token, TokenKind};
@@ -21,234 +22,222 @@ fn is_close(token: Token) -> bool
     matches!(token.kind, TokenKind::Mark(Mark::Close))
 }
 
-// One more node, whose first token stands at `span`, with `levels` left and `count` nodes so far.
-fn room_for(levels: u16, count: usize, span: Span) -> Result<(), Refusal>
-    ensures { elim result [ Ok _ ↦ room levels count ≡ true | Err f ↦ (room levels count ≡ false) × (f ≡ Refusal.TooLarge span) ] }
-{
-    if levels == 0 || count >= MOST_NODES {
-        return Err(Refusal::TooLarge(span));
-    }
-    Ok(())
+// A text that is being read, and the draft that its nodes go to.
+#[derive(Drop)]
+struct Reader<'a, 'b> {
+    lexer: Lexer<'a>,
+    draft: &'b mut Draft,
 }
 
-#[cycle(reading)]
-fn read_element(
-    src: &mut Lexer<'_>,
-    element: Element,
-    levels: u16,
-    out: &mut Draft,
-) -> Result<(), Refusal>
-    ensures ahead { Ahead src.old result src.new }
-    ensures read { HasRead (one (kind_of element) ∷ []) (said (ahead src.old)) result src.new out.old.nodes.items out.new.nodes.items }
-    ensures goes { Leads (λ gs. run (ahead src.old) (goal.element (kind_of element) levels ∷ gs) (vec_len out.old.nodes)) result src.new (vec_len out.new.nodes) }
-{
-    let token = src.take()?;
-    element_from(token, src, element, levels, out)
-}
-
-// An element whose first token is taken.
-#[cycle(reading)]
-fn element_from(
-    token: Token,
-    src: &mut Lexer<'_>,
-    element: Element,
-    levels: u16,
-    out: &mut Draft,
-) -> Result<(), Refusal>
-    ensures ahead { Onward src.old result src.new }
-    ensures read { HasRead (one (kind_of element) ∷ []) (token_of token ∷ said (ahead src.old)) result src.new out.old.nodes.items out.new.nodes.items }
-    ensures goes { Leads (λ gs. judge token src.old (goal.element (kind_of element) levels) gs (vec_len out.old.nodes)) result src.new (vec_len out.new.nodes) }
-{
-    match element {
-        Element::Solid => solid_from(token, src, levels, out),
-        Element::Vector => vector_from(token, src, levels, out),
-    }
-}
-
-fn vector_from(
-    token: Token,
-    src: &mut Lexer<'_>,
-    levels: u16,
-    out: &mut Draft,
-) -> Result<(), Refusal>
-    ensures ahead { Onward src.old result src.new }
-    ensures read { HasRead (one vector ∷ []) (token_of token ∷ said (ahead src.old)) result src.new out.old.nodes.items out.new.nodes.items }
-    ensures goes { Leads (λ gs. judge token src.old (goal.element vector levels) gs (vec_len out.old.nodes)) result src.new (vec_len out.new.nodes) }
-{
-    let TokenKind::Mark(Mark::Left) = token.kind else {
-        return Err(Refusal::NoSolid(token.span));
-    };
-    room_for(levels, out.nodes.len(), token.span)?;
-    let vector = src.entries()?;
-    out.nodes.push_reserved(Node::Vector(vector));
-    Ok(())
-}
-
-#[cycle(reading)]
-fn solid_from(
-    token: Token,
-    src: &mut Lexer<'_>,
-    levels: u16,
-    out: &mut Draft,
-) -> Result<(), Refusal>
-    ensures ahead { Onward src.old result src.new }
-    ensures read { HasRead (one solid ∷ []) (token_of token ∷ said (ahead src.old)) result src.new out.old.nodes.items out.new.nodes.items }
-    ensures goes { Leads (λ gs. judge token src.old (goal.element solid levels) gs (vec_len out.old.nodes)) result src.new (vec_len out.new.nodes) }
-{
-    if let TokenKind::Word(Word::Empty) = token.kind {
-        room_for(levels, out.nodes.len(), token.span)?;
-        out.nodes.push_reserved(Node::Empty);
-        return Ok(());
-    }
-    let TokenKind::Mark(Mark::Open) = token.kind else {
-        return Err(Refusal::NoSolid(token.span));
-    };
-    room_for(levels, out.nodes.len(), token.span)?;
-    read_inside(src, levels - 1, out)
-}
-
-// The rest of a solid after its bracket, whose parts have `levels` left.
-#[cycle(reading)]
-fn read_inside(src: &mut Lexer<'_>, levels: u16, out: &mut Draft) -> Result<(), Refusal>
-    requires len { vec_len out.old.nodes < 640 }
-    ensures ahead { Ahead src.old result src.new }
-    ensures read { HasRead (one solid ∷ []) (tokens.mark mark.Open ∷ said (ahead src.old)) result src.new out.old.nodes.items out.new.nodes.items }
-    ensures goes { Leads (λ gs. run (ahead src.old) (goal.in_solid levels ∷ gs) (vec_len out.old.nodes + 1)) result src.new (vec_len out.new.nodes) }
-{
-    let token = src.take()?;
-    let TokenKind::Word(word) = token.kind else {
-        return Err(Refusal::NoSolid(token.span));
-    };
-    let form = solid_form(word).ok_or(Refusal::NoSolid(token.span))?;
-    match form {
-        SolidForm::Primitive => {
-            let kind = src.plain()?;
-            let sizes = src.bracket()?;
-            out.nodes.push_reserved(Node::Primitive(kind, sizes));
-            src.mark(Mark::Close)?;
-            Ok(())
+impl Reader<'_, '_> {
+    // Refuses one more node past the limits, whose first token stands at `span`, with `levels` left.
+    fn room_for(&self, levels: u16, span: Span) -> Result<(), Refusal>
+        ensures { elim result [ Ok _ ↦ room levels (count self.now) ≡ true | Err f ↦ (room levels (count self.now) ≡ false) × (f ≡ Refusal.TooLarge span) ] }
+    {
+        let draft = &*self.draft;
+        if levels == 0 || draft.nodes.len() >= MOST_NODES {
+            return Err(Refusal::TooLarge(span));
         }
-        SolidForm::Place(placement) => {
-            let vector = src.bracket()?;
-            out.nodes.push_reserved(Node::Place(placement, vector));
-            read_element(src, Element::Solid, levels, out)?;
-            src.mark(Mark::Close)?;
-            Ok(())
-        }
-        SolidForm::Join(operator) => {
-            out.nodes.push_reserved(Node::Join(operator));
-            read_element(src, Element::Solid, levels, out)?;
-            read_element(src, Element::Solid, levels, out)?;
-            src.mark(Mark::Close)?;
-            Ok(())
-        }
-        SolidForm::Fold => {
-            src.union_word()?;
-            out.nodes.push_reserved(Node::Fold);
-            read_list(src, Element::Solid, levels, out)?;
-            src.mark(Mark::Close)?;
-            Ok(())
+        Ok(())
+    }
+
+    // Adds a node, and says at which place.
+    fn push(&mut self, node: Node) -> usize
+        requires { count self.old < 640 }
+        ensures same { (self.new.lexer ≡ self.old.lexer) × (self.new.draft.ghost_name ≡ self.old.draft.ghost_name) }
+        ensures place { result ≡ count self.old }
+        ensures items { self.new.draft.now.nodes.items ≡ self.old.draft.now.nodes.items ++ (node ∷ []) }
+    {
+        let draft = &mut *self.draft;
+        let place = draft.nodes.len();
+        draft.nodes.push_reserved(node);
+        place
+    }
+
+    // With `levels` left for it and its parts.
+    #[cycle(reading)]
+    fn element(&mut self, element: Element, levels: u16) -> Result<(), Refusal>
+        ensures moved { Moved self.old result self.new }
+        ensures read { HasRead (one (kind_of element) ∷ []) (said (left self.old)) self.old result self.new }
+        ensures goes { Leads (λ gs. run (left self.old) (goal.element (kind_of element) levels ∷ gs) (count self.old)) result self.new }
+    {
+        let token = self.lexer.take()?;
+        self.element_from(token, element, levels)
+    }
+
+    // An element whose first token is taken.
+    #[cycle(reading)]
+    fn element_from(&mut self, token: Token, element: Element, levels: u16) -> Result<(), Refusal>
+        ensures moved { Onward self.old result self.new }
+        ensures read { HasRead (one (kind_of element) ∷ []) (token_of token ∷ said (left self.old)) self.old result self.new }
+        ensures goes { Leads (λ gs. judge token self.old.lexer (goal.element (kind_of element) levels) gs (count self.old)) result self.new }
+    {
+        match element {
+            Element::Solid => self.solid_from(token, levels),
+            Element::Vector => self.vector_from(token, levels),
         }
     }
-}
 
-#[cycle(reading)]
-fn read_list(
-    src: &mut Lexer<'_>,
-    element: Element,
-    levels: u16,
-    out: &mut Draft,
-) -> Result<(), Refusal>
-    ensures ahead { Ahead src.old result src.new }
-    ensures read { HasRead (many (kind_of element) ∷ []) (said (ahead src.old)) result src.new out.old.nodes.items out.new.nodes.items }
-    ensures goes { Leads (λ gs. run (ahead src.old) (goal.list (kind_of element) levels ∷ gs) (vec_len out.old.nodes)) result src.new (vec_len out.new.nodes) }
-{
-    let token = src.take()?;
-    let TokenKind::Mark(Mark::Open) = token.kind else {
-        return Err(Refusal::NoSolid(token.span));
-    };
-    room_for(levels, out.nodes.len(), token.span)?;
-    read_inside_list(src, element, levels - 1, out)
-}
+    fn vector_from(&mut self, token: Token, levels: u16) -> Result<(), Refusal>
+        ensures moved { Onward self.old result self.new }
+        ensures read { HasRead (one vector ∷ []) (token_of token ∷ said (left self.old)) self.old result self.new }
+        ensures goes { Leads (λ gs. judge token self.old.lexer (goal.element vector levels) gs (count self.old)) result self.new }
+    {
+        let TokenKind::Mark(Mark::Left) = token.kind else {
+            return Err(Refusal::NoSolid(token.span));
+        };
+        self.room_for(levels, token.span)?;
+        let vector = self.lexer.entries()?;
+        self.push(Node::Vector(vector));
+        Ok(())
+    }
 
-// The rest of a list after its bracket, whose parts have `levels` left.
-#[cycle(reading)]
-fn read_inside_list(
-    src: &mut Lexer<'_>,
-    element: Element,
-    levels: u16,
-    out: &mut Draft,
-) -> Result<(), Refusal>
-    requires len { vec_len out.old.nodes < 640 }
-    ensures ahead { Ahead src.old result src.new }
-    ensures read { HasRead (many (kind_of element) ∷ []) (tokens.mark mark.Open ∷ said (ahead src.old)) result src.new out.old.nodes.items out.new.nodes.items }
-    ensures goes { Leads (λ gs. run (ahead src.old) (goal.in_list (kind_of element) levels ∷ gs) (vec_len out.old.nodes + 1)) result src.new (vec_len out.new.nodes) }
-{
-    let token = src.take()?;
-    let TokenKind::Word(word) = token.kind else {
-        return Err(Refusal::NoSolid(token.span));
-    };
-    let form = list_form(element, word).ok_or(Refusal::NoSolid(token.span))?;
-    match form {
-        ListForm::Elements => {
-            let place = out.nodes.len();
-            out.nodes.push_reserved(Node::List(0));
-            let count = read_elements(src, element, levels, out)?;
-            out.nodes[place] = Node::List(count);
-            Ok(())
+    #[cycle(reading)]
+    fn solid_from(&mut self, token: Token, levels: u16) -> Result<(), Refusal>
+        ensures moved { Onward self.old result self.new }
+        ensures read { HasRead (one solid ∷ []) (token_of token ∷ said (left self.old)) self.old result self.new }
+        ensures goes { Leads (λ gs. judge token self.old.lexer (goal.element solid levels) gs (count self.old)) result self.new }
+    {
+        if let TokenKind::Word(Word::Empty) = token.kind {
+            self.room_for(levels, token.span)?;
+            self.push(Node::Empty);
+            return Ok(());
         }
-        ListForm::Repeat => {
-            let count = src.plain()?;
-            out.nodes.push_reserved(Node::Repeat(count));
-            read_element(src, element, levels, out)?;
-            src.mark(Mark::Close)?;
-            Ok(())
-        }
-        ListForm::Tabulate => {
-            let count = src.loop_count()?;
-            out.nodes.push_reserved(Node::Tabulate(count));
-            read_element(src, element, levels, out)?;
-            src.mark(Mark::Close)?;
-            Ok(())
-        }
-        ListForm::Concat => {
-            out.nodes.push_reserved(Node::Concat);
-            read_list(src, element, levels, out)?;
-            read_list(src, element, levels, out)?;
-            src.mark(Mark::Close)?;
-            Ok(())
-        }
-        ListForm::Map2 => {
-            let placement = src.placement()?;
-            out.nodes.push_reserved(Node::Map2(placement));
-            read_list(src, Element::Vector, levels, out)?;
-            read_list(src, Element::Solid, levels, out)?;
-            src.mark(Mark::Close)?;
-            Ok(())
+        let TokenKind::Mark(Mark::Open) = token.kind else {
+            return Err(Refusal::NoSolid(token.span));
+        };
+        self.room_for(levels, token.span)?;
+        self.inside_solid(levels - 1)
+    }
+
+    // The rest of a solid after its bracket, whose parts have `levels` left.
+    #[cycle(reading)]
+    fn inside_solid(&mut self, levels: u16) -> Result<(), Refusal>
+        requires len { count self.old < 640 }
+        ensures moved { Moved self.old result self.new }
+        ensures read { HasRead (one solid ∷ []) (tokens.mark mark.Open ∷ said (left self.old)) self.old result self.new }
+        ensures goes { Leads (λ gs. run (left self.old) (goal.in_solid levels ∷ gs) (count self.old + 1)) result self.new }
+    {
+        let token = self.lexer.take()?;
+        let TokenKind::Word(word) = token.kind else {
+            return Err(Refusal::NoSolid(token.span));
+        };
+        let form = solid_form(word).ok_or(Refusal::NoSolid(token.span))?;
+        match form {
+            SolidForm::Primitive => {
+                let kind = self.lexer.plain()?;
+                let sizes = self.lexer.bracket()?;
+                self.push(Node::Primitive(kind, sizes));
+                self.lexer.mark(Mark::Close)?;
+                Ok(())
+            }
+            SolidForm::Place(placement) => {
+                let vector = self.lexer.bracket()?;
+                self.push(Node::Place(placement, vector));
+                self.element(Element::Solid, levels)?;
+                self.lexer.mark(Mark::Close)?;
+                Ok(())
+            }
+            SolidForm::Join(operator) => {
+                self.push(Node::Join(operator));
+                self.element(Element::Solid, levels)?;
+                self.element(Element::Solid, levels)?;
+                self.lexer.mark(Mark::Close)?;
+                Ok(())
+            }
+            SolidForm::Fold => {
+                self.lexer.union_word()?;
+                self.push(Node::Fold);
+                self.list(Element::Solid, levels)?;
+                self.lexer.mark(Mark::Close)?;
+                Ok(())
+            }
         }
     }
-}
 
-// The elements that are left of a list and its closing bracket; says how many they were.
-#[cycle(reading)]
-fn read_elements(
-    src: &mut Lexer<'_>,
-    element: Element,
-    levels: u16,
-    out: &mut Draft,
-) -> Result<usize, Refusal>
-    ensures ahead { Ahead src.old result src.new }
-    ensures count { IfOk result (λ n. src.old.at + n < src.new.at) }
-    ensures read { IfOk result (λ n. Read (replicate n (one (kind_of element))) (said (ahead src.old)) (tokens.mark mark.Close ∷ said (ahead src.new)) out.old.nodes.items out.new.nodes.items) }
-    ensures goes { Leads (λ gs. run (ahead src.old) (goal.elements (kind_of element) levels ∷ gs) (vec_len out.old.nodes)) result src.new (vec_len out.new.nodes) }
-{
-    let token = src.take()?;
-    if is_close(token) {
-        return Ok(0);
+    #[cycle(reading)]
+    fn list(&mut self, element: Element, levels: u16) -> Result<(), Refusal>
+        ensures moved { Moved self.old result self.new }
+        ensures read { HasRead (many (kind_of element) ∷ []) (said (left self.old)) self.old result self.new }
+        ensures goes { Leads (λ gs. run (left self.old) (goal.list (kind_of element) levels ∷ gs) (count self.old)) result self.new }
+    {
+        let token = self.lexer.take()?;
+        let TokenKind::Mark(Mark::Open) = token.kind else {
+            return Err(Refusal::NoSolid(token.span));
+        };
+        self.room_for(levels, token.span)?;
+        self.inside_list(element, levels - 1)
     }
-    element_from(token, src, element, levels, out)?;
-    let count = read_elements(src, element, levels, out)?;
-    Ok(count + 1)
+
+    // The rest of a list after its bracket, whose parts have `levels` left.
+    #[cycle(reading)]
+    fn inside_list(&mut self, element: Element, levels: u16) -> Result<(), Refusal>
+        requires len { count self.old < 640 }
+        ensures moved { Moved self.old result self.new }
+        ensures read { HasRead (many (kind_of element) ∷ []) (tokens.mark mark.Open ∷ said (left self.old)) self.old result self.new }
+        ensures goes { Leads (λ gs. run (left self.old) (goal.in_list (kind_of element) levels ∷ gs) (count self.old + 1)) result self.new }
+    {
+        let token = self.lexer.take()?;
+        let TokenKind::Word(word) = token.kind else {
+            return Err(Refusal::NoSolid(token.span));
+        };
+        let form = list_form(element, word).ok_or(Refusal::NoSolid(token.span))?;
+        match form {
+            ListForm::Elements => {
+                let place = self.push(Node::List(0));
+                let count = self.elements(element, levels)?;
+                let draft = &mut *self.draft;
+                draft.nodes[place] = Node::List(count);
+                Ok(())
+            }
+            ListForm::Repeat => {
+                let count = self.lexer.plain()?;
+                self.push(Node::Repeat(count));
+                self.element(element, levels)?;
+                self.lexer.mark(Mark::Close)?;
+                Ok(())
+            }
+            ListForm::Tabulate => {
+                let count = self.lexer.loop_count()?;
+                self.push(Node::Tabulate(count));
+                self.element(element, levels)?;
+                self.lexer.mark(Mark::Close)?;
+                Ok(())
+            }
+            ListForm::Concat => {
+                self.push(Node::Concat);
+                self.list(element, levels)?;
+                self.list(element, levels)?;
+                self.lexer.mark(Mark::Close)?;
+                Ok(())
+            }
+            ListForm::Map2 => {
+                let placement = self.lexer.placement()?;
+                self.push(Node::Map2(placement));
+                self.list(Element::Vector, levels)?;
+                self.list(Element::Solid, levels)?;
+                self.lexer.mark(Mark::Close)?;
+                Ok(())
+            }
+        }
+    }
+
+    // The elements that are left of a list and its closing bracket; says how many they were.
+    #[cycle(reading)]
+    fn elements(&mut self, element: Element, levels: u16) -> Result<usize, Refusal>
+        ensures moved { Moved self.old result self.new }
+        ensures count { IfOk result (λ n. self.old.lexer.at + n < self.new.lexer.at) }
+        ensures read { IfOk result (λ n. Read (replicate n (one (kind_of element))) (said (left self.old)) (tokens.mark mark.Close ∷ said (left self.new)) self.old.draft.now.nodes.items self.new.draft.now.nodes.items) }
+        ensures goes { Leads (λ gs. run (left self.old) (goal.elements (kind_of element) levels ∷ gs) (count self.old)) result self.new }
+    {
+        let token = self.lexer.take()?;
+        if is_close(token) {
+            return Ok(0);
+        }
+        self.element_from(token, element, levels)?;
+        let count = self.elements(element, levels)?;
+        Ok(count + 1)
+    }
 }
 
 // A whole text, into an empty table.
@@ -257,9 +246,12 @@ pub(crate) fn read_program(text: &[u8], out: &mut Draft) -> Result<(), Refusal>
     ensures read { OnOk result (Read (one solid ∷ []) (said (feed text.now 0)) [] [] out.new.nodes.items) }
     ensures goes { judged (feed text.now 0) ≡ after result (goal.whole (vec_len out.new.nodes)) }
 {
-    let mut src = Lexer { text, at: 0 };
-    read_element(&mut src, Element::Solid, MOST_LEVELS, out)?;
-    if let Some(token) = src.next()? {
+    let mut reader = Reader {
+        lexer: Lexer { text, at: 0 },
+        draft: out,
+    };
+    reader.element(Element::Solid, MOST_LEVELS)?;
+    if let Some(token) = reader.lexer.next()? {
         return Err(Refusal::NoSolid(token.span));
     }
     Ok(())

@@ -1,5 +1,5 @@
 // Tokens, and the lexer that moves through those of a borrowed text.
-ghost use Rattle.std.specs.Prelude.{◌≤◌, length};
+ghost use Rattle.std.specs.Prelude.{◌^◌, ◌<◌, ◌≤◌, length};
 
 use model::{Mark, Numeral, Span, Word};
 
@@ -22,4 +22,5 @@ pub(crate) struct Lexer<'a> {
     pub(crate) text: &'a [u8],
     pub(crate) at: usize,
     ghost within: { at ≤ length text.now },
+    ghost short: { length text.now < 2 ^ 63 },
 }

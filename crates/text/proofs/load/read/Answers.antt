@@ -1,4 +1,4 @@
-use Rattle.std.proofs.Common.{◌≡◌, ◌≤◌, vec_items, vec_len, sym, refl, ◌∙◌, subst, inl, arith, rules}
+use Rattle.std.proofs.Common.{◌≡◌, ◌≤◌, vec_items, vec_len, refl, ◌∙◌, inl, arith, rules}
 use Rattle.std.proofs.lemmas.List.{nil_from_length}
 use Rattle.model.specs.declared.refusal.Refusal.TheVariants.{TooLarge}
 use Rattle.model.specs.Grammar.{refused}
@@ -6,7 +6,7 @@ use Rattle.model.specs.Held.{program}
 use Rattle.model.specs.Texts.{past_end, outcome}
 use Rattle.model.proofs.Texts.{refuses, never, same_program, outcome_long, outcome_short}
 use Rattle.model.proofs.Written.{read_small}
-use Rattle.text.proofs.Loads.{Loaded, loaded}
+use Rattle.text.proofs.Loads.{loaded_in}
 use Rattle.text.proofs.load.read.Goals as goal
 
 pub returns-then-text-gt-MOST_BYTES : goal.returns-then-text-gt-MOST_BYTES
@@ -26,11 +26,11 @@ returns-in-Err c =
 
 pub invariant_of-table-3 : goal.invariant_of-table-3
 invariant_of-table-3 c =
-    let l = subst (λ v. Loaded c.args.text.now (vec_items v)) (sym c.swap.ensures.x_after) (loaded c.args.text.now (vec_items c.read_program.new.out.nodes) (vec_len c.read_program.new.out.nodes) c.in_default.ensures.read c.if-text-gt-MOST_BYTES.false c.in_default.ensures.goes) in
+    let l = loaded_in c.args.text.now _ _ _ c.swap.ensures.x_after c.in_default.ensures.read c.if-text-gt-MOST_BYTES.false c.in_default.ensures.goes in
     let few : vec_len c.swap.new.x ≤ 640 = omega (arith, l.few, c.swap.new.x.ok.0) in
     (search rules, (l.are_whole, (few, (search rules, (search rules, tt)))))
 
 pub returns : goal.returns
 returns c =
-    let l = subst (λ v. Loaded c.args.text.now (vec_items v)) (sym c.swap.ensures.x_after) (loaded c.args.text.now (vec_items c.read_program.new.out.nodes) (vec_len c.read_program.new.out.nodes) c.in_default.ensures.read c.if-text-gt-MOST_BYTES.false c.in_default.ensures.goes) in
+    let l = loaded_in c.args.text.now _ _ _ c.swap.ensures.x_after c.in_default.ensures.read c.if-text-gt-MOST_BYTES.false c.in_default.ensures.goes in
     record { outcome = l.outcome; reading = (l.accepted, read_small c.args.text.now (program (vec_items c.swap.new.x)) l.accepted, λ other e a. same_program other c.args.text.now e (program (vec_items c.swap.new.x)) a l.accepted) }

@@ -1,12 +1,10 @@
-use Rattle.std.proofs.Common.{◌≡◌, ◌+◌, ◌≤◌, ℕ, List, length, drop, refl, sym, ap, ◌∙◌, arith, rules}
+use Rattle.std.proofs.Common.{◌≡◌, ◌+◌, ℕ, List, length, refl, ap, ◌∙◌, arith}
 use Rattle.std.specs.List.{prefix_len, slice_range}
 use Rattle.std.proofs.lemmas.Result.{err_from_is_err_and}
 use Rattle.std.proofs.lemmas.Slice.{between_to_end}
 use Rattle.model.specs.Bytes.{is_sep}
-use Rattle.model.specs.Feed as F
 use Rattle.model.specs.Lexing.{fed, feed, past_seps}
 use Rattle.model.proofs.Feeds.{got_ahead, feed_end, feed_token}
-use Rattle.text.specs.Lexer.{token_of}
 use Rattle.text.proofs.token.Lexer.next.Goals as goal
 
 -- the first byte that is no separator
@@ -34,7 +32,7 @@ overflow_add-self-2 c =
 pub invariant_of-self-2 : goal.invariant_of-self-2
 invariant_of-self-2 c =
     let m = got_ahead c.args.self.now.text.now (c.args.self.now.at + c.separators_len.result) _ _ c.in_ok-token.token.span (omega arith) c.in_ok-token.ensures refl in
-    record { within = m.1 }
+    record { within = m.1; short = c.args.self.now.short }
 
 pub returns-clause-nexts : goal.returns-clause-nexts
 returns-clause-nexts c =
