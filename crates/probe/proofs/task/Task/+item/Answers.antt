@@ -1,5 +1,4 @@
 use Rattle.std.proofs.Common.{◌∙◌, ap, Some, sym, subst}
-use Rattle.program.specs.declared.element.Item.TheVariants.{Whole, Placed}
 use Rattle.program.specs.Elements.{nodes_of}
 use Rattle.probe.specs.declared.task.Task.{Task}
 use Rattle.probe.specs.Walking.{Leads}

@@ -1,4 +1,4 @@
-use Rattle.std.proofs.Common.{◌≡◌, false, List, ◌∷◌, [], ◌++◌, ℤ, Some, vec_items, sym, refl, ap, ◌∙◌, subst, arith, w64, SFits, rules}
+use Rattle.std.proofs.Common.{Some, vec_items, sym, refl, ap, ◌∙◌, arith, w64, SFits, rules}
 use Rattle.std.proofs.lemmas.Int.{to_z-of_z}
 use Rattle.model.specs.declared.node.Node.TheVariants as v
 use Rattle.model.specs.declared.node.Triple.{Triple}
@@ -7,12 +7,8 @@ use Rattle.model.specs.Unrolling.{primitive}
 use Rattle.program.specs.Elements.{nodes_of}
 use Rattle.program.proofs.Items.{first_part}
 use Rattle.program.proofs.Places.{few_nodes}
-use Rattle.probe.specs.declared.task.Task.{Task}
-use Rattle.probe.specs.declared.task.Frame.{Frame}
-use Rattle.probe.specs.declared.task.Frame.TheVariants.{Left, Rest}
-use Rattle.probe.specs.declared.task.Turn.TheVariants.{Enter, Leave}
 use Rattle.probe.specs.Moving.{moves}
-use Rattle.probe.specs.Walking.{asked, holds, resume, Goes}
+use Rattle.probe.specs.Walking.{asked, holds, resume}
 use Rattle.probe.proofs.Frames.{resume_none}
 use Rattle.probe.proofs.Entering.{prim_on, prim_none, place_on, join_on, fold_on, rest_on}
 use Rattle.probe.proofs.walk.Walker.enter.Goals as goal
