@@ -7,7 +7,7 @@ use Rattle.probe.proofs.task.Task.+item.Goals as goal
 
 pub returns-in-Some-Whole : goal.returns-in-Some-Whole
 returns-in-Some-Whole t c = λ m w h. let f = c.find_item in let i = c.in-Some-Whole in
-    subst (λ (y : Task). Leads (nodes_of c.args.layout.now) m c.args.self.now w y) (sym c.to.ensures)
+    subst (λ (y : Task). Leads (nodes_of c.args.layout.now) m c.args.self.now w y) (sym c.with_term.ensures)
     (led_whole _ m c.args.self.now c.args.k w h f.result f.ensures.finds f.ensures.behind i.term (i.is ∙ ap Some i.field-0-is))
 
 pub returns-in-Some-Placed : goal.returns-in-Some-Placed
