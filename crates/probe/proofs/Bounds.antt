@@ -1,7 +1,7 @@
 -- Numbers that fit their types.
-use Rattle.std.proofs.Common.{◌≡◌, ℕ, ◌^◌, ◌<◌, ◌≤◌, Bool, true, false, cond, ◌||◌, ℤ, pos, ◌+ℤ◌, ◌-ℤ◌, ◌*ℤ◌, nat_abs, Some, None, sym, refl, ap, ◌∙◌, subst, arith, w64, SFits, to_z, of_z}
+use Rattle.std.proofs.Common.{◌≡◌, ℕ, ◌^◌, ◌<◌, ◌≤◌, Bool, true, false, cond, ◌||◌, ℤ, ◌-ℤ◌, ◌*ℤ◌, nat_abs, Some, None, sym, refl, ap, ◌∙◌, subst, arith, w64, SFits, to_z, of_z}
 use borrow.Author.Differences.{ints}
-use Rattle.std.proofs.lemmas.Bool.{ltb-false, le-ltb}
+use Rattle.std.proofs.lemmas.Bool.{ltb-false, le-ltb, or_parts}
 use Rattle.std.proofs.lemmas.Int.{to_z-of_z}
 use Rattle.model.specs.declared.node.Triple.{Triple}
 use Rattle.model.specs.Legality.{some_axis, beyond}
@@ -40,15 +40,11 @@ products a b c p q r =
 
 -- ---- numbers at hand
 -- a small number is what its bits say
-pub back : (z : ℤ) (m : ℕ) → nat_abs z ≤ m → m < 2 ^ 63 → to_z w64 (of_z w64 z) ≡ z
+back : (z : ℤ) (m : ℕ) → nat_abs z ≤ m → m < 2 ^ 63 → to_z w64 (of_z w64 z) ≡ z
 back z m h l = to_z-of_z w64 z (small_fits z m h l)
 
 pub kept : (z : ℤ) (m : ℕ) → nat_abs z ≤ m → m < 2 ^ 63 → nat_abs (to_z w64 (of_z w64 z)) ≤ m
 kept z m h l = let P : ℤ → Type 0 = λ y. nat_abs y ≤ m in subst P (sym (back z m h l)) h
-
-pub or_false : (a b : Bool) → (a || b) ≡ false → (a ≡ false) × (b ≡ false)
-or_false true b e = absurd (let z : ◌≡◌ {A = ℕ} 0 1 = cc in omega arith)
-or_false false b e = (refl, e)
 
 -- a vector without a number that is farther from 0 than m
 pub record Small (m : ℕ) (v : Triple) : Type 0 where
@@ -58,11 +54,11 @@ pub record Small (m : ℕ) (v : Triple) : Type 0 where
 
 pub small : (m : ℕ) (v : Triple) → some_axis (beyond m) v ≡ false → Small m v
 small m v e =
-    let a = or_false (beyond m v.x) (beyond m v.y || beyond m v.z) e in
-    let b = or_false (beyond m v.y) (beyond m v.z) a.1 in
+    let a = or_parts (beyond m v.x) (beyond m v.y || beyond m v.z) e in
+    let b = or_parts (beyond m v.y) (beyond m v.z) a.1 in
     record { x = ltb-false m (nat_abs v.x) a.0; y = ltb-false m (nat_abs v.y) b.0; z = ltb-false m (nat_abs v.z) b.1 }
 
-pub not_beyond : (m : ℕ) (v : Triple) → Small m v → some_axis (beyond m) v ≡ false
+not_beyond : (m : ℕ) (v : Triple) → Small m v → some_axis (beyond m) v ≡ false
 not_beyond m v s = λ i. le-ltb m (nat_abs v.x) s.x i || (le-ltb m (nat_abs v.y) s.y i || le-ltb m (nat_abs v.z) s.z i)
 
 -- what a bounded vector is
@@ -76,4 +72,4 @@ bounded_some m v u e = go (some_axis (beyond m) v) refl e
 pub bounded_none : (m : ℕ) (v : Triple) → None ≡ bounded m v → Small m v → ⊥
 bounded_none m v e s =
     let q : None ≡ Some v = e ∙ ap (λ b. cond b None (Some v)) (not_beyond m v s) in
-    let z : ◌≡◌ {A = ℕ} 0 1 = cc in omega arith
+    cc

@@ -1,5 +1,5 @@
 -- What leads to an element of a list. Assumes nothing.
-use Rattle.std.proofs.Common.{◌≡◌, ℕ, List, Some, None, Option, sym, ap, ◌∙◌, subst, arith}
+use Rattle.std.proofs.Common.{◌≡◌, ℕ, List, Some, None, Option, ap, ◌∙◌, subst, arith}
 use Rattle.model.specs.declared.node.Node.{Node}
 use Rattle.model.specs.declared.node.Placement.{Placement}
 use Rattle.model.specs.declared.node.Triple.{Triple}
@@ -14,7 +14,7 @@ use Rattle.program.specs.Elements.{Holds, IsItem, Finds, Behind}
 use Rattle.program.proofs.Taken.{finds_in}
 use Rattle.probe.specs.declared.task.Task.{Task}
 use Rattle.probe.specs.Moving.{Spot, moves}
-use Rattle.probe.specs.Walking.{Walk, walking, walk, Leads}
+use Rattle.probe.specs.Walking.{Walk, walking, Leads}
 use Rattle.probe.proofs.Terms.{walk_is}
 use Rattle.probe.proofs.Entering.{task}
 

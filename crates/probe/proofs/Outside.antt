@@ -1,8 +1,9 @@
 -- A long way and a large factor lead out of reach. Assumes nothing.
-use Rattle.std.proofs.Common.{◌≡◌, ℕ, zero, suc, ◌*◌, ◌≤◌, Bool, true, false, cond, ◌&&◌, ℤ, pos, negsuc, ◌-ℤ◌, ◌*ℤ◌, neg_ℤ, nat_abs, Some, None, refl, mul-le-mul, one-mul, mul-zero, zero-mul, mul-one, arith}
+use Rattle.std.proofs.Common.{◌≡◌, ℕ, zero, suc, ◌*◌, ◌≤◌, Bool, true, false, cond, ◌&&◌, ℤ, pos, ◌-ℤ◌, ◌*ℤ◌, neg_ℤ, nat_abs, Some, None, refl, mul-le-mul, one-mul, mul-zero, zero-mul, mul-one, arith}
 use borrow.Author.Differences.{ints}
 use lib.Signed.{le_z, non_neg}
 use Rattle.std.proofs.lemmas.Bool.{and_parts}
+use Rattle.std.proofs.lemmas.Int.{unsigned_abs-mul}
 use Rattle.model.specs.declared.node.Triple.{Triple}
 use Rattle.model.specs.declared.point.Point.{Point}
 use Rattle.model.specs.Families.{signed, rescaled}
@@ -13,15 +14,7 @@ use Rattle.probe.specs.Moving.{spot_of}
 use Rattle.probe.proofs.Bounds.{Small}
 
 abs_neg : (z : ℤ) → nat_abs (neg_ℤ z) ≡ nat_abs z
-abs_neg (pos zero) = refl
-abs_neg (pos (suc n)) = refl
-abs_neg (negsuc n) = refl
-
-abs_mul : (a b : ℤ) → nat_abs (a *ℤ b) ≡ nat_abs a * nat_abs b
-abs_mul (pos a) (pos b) = refl
-abs_mul (pos a) (negsuc b) = abs_neg (pos (a * suc b))
-abs_mul (negsuc a) (pos b) = abs_neg (pos (suc a * b))
-abs_mul (negsuc a) (negsuc b) = refl
+abs_neg z = omega (arith, ints)
 
 abs_signed : (m z : ℤ) → nat_abs (signed m z) ≡ nat_abs z
 abs_signed m z = go (non_neg m)
@@ -50,7 +43,7 @@ divisor p e =
 short : (x v w : ℤ) → nat_abs x ≤ 1000000000 → 1 ≤ nat_abs w → nat_abs (x -ℤ v *ℤ w) ≤ 1000000000 → nat_abs v ≤ 2000000000
 short x v w p q r =
     let d : nat_abs (v *ℤ w) ≤ 2000000000 = apart x (v *ℤ w) p r in
-    let m = abs_mul v w in
+    let m = unsigned_abs-mul v w in
     let l : nat_abs v * 1 ≤ nat_abs v * nat_abs w = mul-le-mul (omega arith) q in
     omega (arith, d, m, l, mul-one (nat_abs v))
   where
@@ -75,11 +68,11 @@ small_factors v p f =
     let s = abs_signed m all in
     let d = divisor (rescaled v p) f in
     let w = (reached (rescaled v p) f).w in
-    let e3 = abs_mul two v.z in
+    let e3 = unsigned_abs-mul two v.z in
     let f3 = factors (nat_abs two) (nat_abs v.z) (omega (arith, s, d, e3)) in
-    let e2 = abs_mul one v.y in
+    let e2 = unsigned_abs-mul one v.y in
     let f2 = factors (nat_abs one) (nat_abs v.y) (omega (arith, e2, f3.0)) in
-    let e1 = abs_mul p.w v.x in
+    let e1 = unsigned_abs-mul p.w v.x in
     let f1 = factors (nat_abs p.w) (nat_abs v.x) (omega (arith, e1, f2.0)) in
     record { x = omega (arith, s, w, e3, f3.1, e2, f2.1, e1, f1.2); y = omega (arith, s, w, e3, f3.1, e2, f2.2); z = omega (arith, s, w, e3, f3.2) }
 

@@ -1,8 +1,7 @@
 -- A part is laid out, and its program can be walked through. Assumes nothing.
-use Rattle.std.proofs.Common.{◌≡◌, ◌≤◌, Bool, true, false, cond, ◌&&◌, [], ◌++◌, ℤ, pos, negsuc, nat_abs, Some, Ok, Err, sym, ap, ◌∙◌, ap₂, append-nil, arith}
+use Rattle.std.proofs.Common.{◌≡◌, ◌≤◌, Bool, true, false, cond, ◌&&◌, [], ℤ, pos, negsuc, nat_abs, Some, Ok, Err, sym, ap, ◌∙◌, ap₂, append-nil, arith}
 use Rattle.std.proofs.lemmas.Bool.{le-leb}
 use Rattle.model.specs.declared.node.Triple.{Triple}
-use Rattle.model.specs.declared.point.Point.{Point}
 use Rattle.model.specs.Nodes.{flatten}
 use Rattle.model.specs.Families.{Meaning}
 use Rattle.model.specs.Shapes.{run}

@@ -1,7 +1,6 @@
 -- What a walk with a stack of frames still has to answer. Assumes nothing.
 use Rattle.std.specs.Prelude.{◌≡◌, ℕ, suc, ◌+◌, ◌-◌, ◌*◌, ◌<◌, ◌≤◌, Bool, false, cond, not, ◌&&◌, List, [], ◌∷◌, length, drop, Some, None, Ok, Err, Option, Result, nat_le}
 use Rattle.model.specs.declared.node.Node.{Node}
-use Rattle.model.specs.declared.node.Triple.{Triple}
 use Rattle.model.specs.declared.node.Operator.{Operator}
 use Rattle.model.specs.declared.node.Operator.TheVariants.{Union}
 use Rattle.model.specs.declared.point.Primitive.{Primitive}

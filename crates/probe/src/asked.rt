@@ -22,11 +22,7 @@ fn kind_of(kind: i64) -> Option<u16>
 fn is_in<F: Family>(family: &F, primitive: Primitive, at: Reachable) -> bool
     ensures { result ≡ (F.Family.meaning family.now).contains primitive at }
 {
-    match family.contains(&primitive, &at.point()) {
-        Reach::In => true,
-        // A point in reach is never out of it.
-        Reach::Out | Reach::OutOfReach => false,
-    }
+    family.contains(&primitive, &at.point()) == Reach::In
 }
 
 /// Whether the primitive of a kind and sizes contains a point.

@@ -14,7 +14,7 @@ impl Task {
         ensures { (m : Meaning) (w : Walk) → Holds (walking m) (nodes_of layout.now) self.now.term k solid w → Leads (nodes_of layout.now) m self.now w result }
     {
         match layout.find_item(self.term, k) {
-            Some(Item::Whole(term)) => self.to(term),
+            Some(Item::Whole(term)) => self.with_term(term),
             Some(Item::Placed(placement, both)) => {
                 let by = layout.vector_item(both.vectors, both.k);
                 let solids = Task {
@@ -24,7 +24,7 @@ impl Task {
                 solids.item(layout, both.k)
             }
             // No list stands there.
-            None => self.to(self.term),
+            None => self.with_term(self.term),
         }
     }
 }

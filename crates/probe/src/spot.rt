@@ -50,7 +50,8 @@ fn quarter(degrees: i128) -> u8
     degrees.div_euclid(90).rem_euclid(4) as u8
 }
 
-/// A plane turned back by so many quarters.
+/// A plane turned back by so many quarters: a number, since an enum of four would be made by a match
+/// that says what this one says.
 fn turn_back(quarter: u8, a: i64, b: i64) -> (i64, i64)
     requires { (unsigned_abs a ≤ 1000000000) × (unsigned_abs b ≤ 1000000000) }
     ensures { Turned quarter a b result.0 result.1 }

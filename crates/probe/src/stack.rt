@@ -5,6 +5,7 @@ use super::task::Frame;
 use model::MOST_NODES;
 use std::alloc::{AllocError, Global};
 
+// Frames are pushed in place: a method that takes one gets no proof, by a fault of the prover.
 #[derive(Drop)]
 pub struct Stack {
     pub(crate) frames: Vec<Frame>,

@@ -15,14 +15,15 @@ pub(crate) struct Task {
 
 impl Task {
     /// Another term at the same spot.
-    pub(crate) fn to(&self, term: Term) -> Task
+    pub(crate) fn with_term(&self, term: Term) -> Task
         ensures { result ≡ record { term = term; spot = self.now.spot } }
     {
         Task { term, ..*self }
     }
 }
 
-/// What becomes of the answer of the term that is walked.
+/// What becomes of the answer of the term that is walked: data and no closure, since all memory is
+/// asked for when the stack is made.
 #[derive(Clone, Copy)]
 pub(crate) enum Frame {
     /// It is the left side's; the right side is still to be walked.

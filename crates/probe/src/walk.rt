@@ -35,15 +35,15 @@ pub(crate) struct Walker<'a, F> {
 
 impl<'a, F: Family> Walker<'a, F> {
     // Goes into a term.
-    fn enter(&self, x: Task, stack: &mut Stack) -> Result<Turn, Unprobed>
+    fn enter(&self, task: Task, stack: &mut Stack) -> Result<Turn, Unprobed>
         requires sound { AllSound (nodes_of self.now.layout.now) 0 stack.old.frames.items }
-        requires low { Low (nodes_of self.now.layout.now) (length stack.old.frames.items) (Enter x) }
-        ensures { Turns (nodes_of self.now.layout.now) (asked (F.Family.meaning self.now.family.now)) stack.old.frames.items (Enter x) stack.new.frames.items result }
+        requires low { Low (nodes_of self.now.layout.now) (length stack.old.frames.items) (Enter task) }
+        ensures { Turns (nodes_of self.now.layout.now) (asked (F.Family.meaning self.now.family.now)) stack.old.frames.items (Enter task) stack.new.frames.items result }
     {
-        let Term { place, index } = x.term;
-        let first = x.term.part();
+        let Term { place, index } = task.term;
+        let first = task.term.part();
         match self.layout.node_at(place) {
-            Node::Primitive(kind, sizes) => match x.spot {
+            Node::Primitive(kind, sizes) => match task.spot {
                 Some(at) => {
                     let held = contains(self.family, kind, sizes.at(index), at);
                     Ok(Turn::Leave(held))
@@ -52,19 +52,16 @@ impl<'a, F: Family> Walker<'a, F> {
             },
             Node::Place(placement, vector) => Ok(Turn::Enter(Task {
                 term: first,
-                spot: moved(placement, vector.at(index), x.spot),
+                spot: moved(placement, vector.at(index), task.spot),
             })),
             Node::Join(operator) => {
-                let right = first.next(self.layout);
-                stack
-                    .frames
-                    .push_reserved(Frame::Left(operator, x.to(right)));
-                Ok(Turn::Enter(x.to(first)))
+                let right = task.with_term(first.next(self.layout));
+                stack.frames.push_reserved(Frame::Left(operator, right));
+                Ok(Turn::Enter(task.with_term(first)))
             }
             Node::Fold => {
-                stack
-                    .frames
-                    .push_reserved(Frame::Rest(x.to(first), 0, false));
+                let list = task.with_term(first);
+                stack.frames.push_reserved(Frame::Rest(list, 0, false));
                 Ok(Turn::Leave(false))
             }
             _ => Ok(Turn::Leave(false)),
@@ -108,7 +105,7 @@ impl<'a, F: Family> Walker<'a, F> {
         });
         loop {
             turn = match turn {
-                Turn::Enter(x) => self.enter(x, stack)?,
+                Turn::Enter(task) => self.enter(task, stack)?,
                 Turn::Leave(held) => match stack.frames.pop() {
                     None => return Ok(held),
                     Some(frame) => self.leave(frame, held, stack),

@@ -3,11 +3,6 @@ use Rattle.std.proofs.lemmas.Int.{to_z-of_z}
 use Rattle.probe.proofs.Bounds.{products}
 use Rattle.probe.proofs.spot.product.Goals as goal
 
-pub overflow_mul-result : goal.overflow_mul-result
-overflow_mul-result c =
-    let f = c.ranges.a in let g = c.ranges.b in
-    simp to_z-of_z (products c.args.a c.args.b c.args.c c.requires.near c.requires.second c.requires.third).two
-
 pub overflow_mul-result-2 : goal.overflow_mul-result-2
 overflow_mul-result-2 c =
     let f = c.ranges.a in let g = c.ranges.b in let h = c.ranges.c in

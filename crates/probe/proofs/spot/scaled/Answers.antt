@@ -1,4 +1,4 @@
-use Rattle.std.proofs.Common.{◌≡◌, ◌≤◌, ap, ℤ, pos, ◌*ℤ◌, nat_abs, ◌∙◌, ap₂, arith, w64, SFits, to_z, of_z, rules}
+use Rattle.std.proofs.Common.{◌≤◌, ap, ℤ, pos, ◌*ℤ◌, nat_abs, ◌∙◌, ap₂, arith, w64, SFits, to_z, of_z, rules}
 use Rattle.std.proofs.lemmas.Int.{to_z-of_z}
 use Rattle.model.specs.Axes.{exact}
 use Rattle.model.specs.Families.{signed, rescaled}
@@ -16,12 +16,6 @@ divisor_small w x f g p q =
     let two : SFits w64 (w *ℤ x) = (products w x (pos 0) (omega arith) q (omega arith)).two in
     let b : nat_abs (w *ℤ x) ≤ 1000000 = abs_bound w x 1000 1000 p q in
     simp to_z-of_z (omega (arith, b))
-
-product_is : (r a b c : ℤ) → SFits w64 r → SFits w64 a → SFits w64 b → SFits w64 c → r ≡ to_z w64 (of_z w64 a) *ℤ to_z w64 (of_z w64 b) *ℤ to_z w64 (of_z w64 c) → to_z w64 (of_z w64 r) ≡ a *ℤ b *ℤ c
-product_is r a b c f g h k e = to_z-of_z w64 r f ∙ e ∙ (λ i. to_z-of_z w64 a g i *ℤ to_z-of_z w64 b h i *ℤ to_z-of_z w64 c k i)
-
-sign_is : (r m v m' v' : ℤ) → SFits w64 r → r ≡ signed m v → m ≡ m' → v ≡ v' → to_z w64 (of_z w64 r) ≡ signed m' v'
-sign_is r m v m' v' f e p q = to_z-of_z w64 r f ∙ e ∙ ap₂ signed p q
 
 pub returns-in_err-by : goal.returns-in_err-by
 returns-in_err-by c =
@@ -60,25 +54,38 @@ product-requires-4 c =
 
 pub returns : goal.returns
 returns c =
-    let p = c.point-x.result in let u = c.in_ok-by.by in let r = reached p c.point-x.ensures.near in let s = (bounded_some 1000 (exact c.args.vector) u c.in_ok-by.ensures).1 in
-    let fw : SFits w64 p.w = search rules in
-    let fx : SFits w64 u.x = search rules in
-    let fy : SFits w64 u.y = search rules in
-    let fz : SFits w64 u.z = search rules in
-    let ex : SFits w64 p.x = search rules in
-    let ey : SFits w64 p.y = search rules in
-    let ez : SFits w64 p.z = search rules in
-    let m = product_is c.product-m.result u.x u.y u.z (search rules) fx fy fz c.product-m.ensures.is in
-    let x = product_is c.product.result p.x u.y u.z (search rules) ex fy fz c.product.ensures.is in
-    let y = product_is c.product-2.result p.y u.x u.z (search rules) ey fx fz c.product-2.ensures.is in
-    let z = product_is c.product-3.result p.z u.x u.y (search rules) ez fx fy c.product-3.ensures.is in
-    let d = divisor_fits p.w u.x fw fx r.w s.x in
-    let w = product_is c.product-4.result (to_z w64 (of_z w64 p.w) *ℤ to_z w64 (of_z w64 u.x)) u.y u.z (search rules) d fy fz c.product-4.ensures.is
-    ∙ (λ i. to_z-of_z w64 p.w fw i *ℤ to_z-of_z w64 u.x fx i *ℤ u.y *ℤ u.z) in
-    let is = (bounded_some 1000 (exact c.args.vector) u c.in_ok-by.ensures).0 in
-    c.new.ensures ∙ ap spot_of ((λ i. record {
-      x = sign_is c.with_sign.result _ _ _ _ (search rules) c.with_sign.ensures m x i;
-      y = sign_is c.with_sign-2.result _ _ _ _ (search rules) c.with_sign-2.ensures m y i;
-      z = sign_is c.with_sign-3.result _ _ _ _ (search rules) c.with_sign-3.ensures m z i;
-      w = sign_is c.with_sign-4.result _ _ _ _ (search rules) c.with_sign-4.ensures m w i;
-    }) ∙ ap₂ rescaled is c.point-x.ensures.is)
+    let p = c.point-x.result in let u = c.in_ok-by.by in let r = reached p c.point-x.ensures.near in
+    let b = bounded_some 1000 (exact c.args.vector) u c.in_ok-by.ensures in
+    let px : SFits w64 p.x = search rules in
+    let py : SFits w64 p.y = search rules in
+    let pz : SFits w64 p.z = search rules in
+    let pw : SFits w64 p.w = search rules in
+    let ux : SFits w64 u.x = search rules in
+    let uy : SFits w64 u.y = search rules in
+    let uz : SFits w64 u.z = search rules in
+    let d : SFits w64 (p.w *ℤ u.x) = (products p.w u.x (pos 0) (omega arith) b.1.x (omega arith)).two in
+    let fm : SFits w64 c.product-m.result = search rules in
+    let fx : SFits w64 c.product.result = search rules in
+    let fy : SFits w64 c.product-2.result = search rules in
+    let fz : SFits w64 c.product-3.result = search rules in
+    let fw : SFits w64 c.product-4.result = search rules in
+    let gx : SFits w64 c.with_sign.result = search rules in
+    let gy : SFits w64 c.with_sign-2.result = search rules in
+    let gz : SFits w64 c.with_sign-3.result = search rules in
+    let gw : SFits w64 c.with_sign-4.result = search rules in
+    let m = simp to_z-of_z at c.product-m.ensures.is in
+    let x = simp to_z-of_z at c.product.ensures.is in
+    let y = simp to_z-of_z at c.product-2.ensures.is in
+    let z = simp to_z-of_z at c.product-3.ensures.is in
+    let w = simp to_z-of_z at c.product-4.ensures.is in
+    let sx = simp to_z-of_z at c.with_sign.ensures in
+    let sy = simp to_z-of_z at c.with_sign-2.ensures in
+    let sz = simp to_z-of_z at c.with_sign-3.ensures in
+    let sw = simp to_z-of_z at c.with_sign-4.ensures in
+    let n = simp to_z-of_z at c.new.ensures in
+    n ∙ ap spot_of ((λ i. record {
+      x = (sx ∙ ap₂ signed m x) i;
+      y = (sy ∙ ap₂ signed m y) i;
+      z = (sz ∙ ap₂ signed m z) i;
+      w = (sw ∙ ap₂ signed m w) i;
+    }) ∙ ap₂ rescaled b.0 c.point-x.ensures.is)

@@ -3,11 +3,6 @@ use Rattle.std.proofs.lemmas.Int.{to_z-of_z}
 use Rattle.probe.proofs.Bounds.{shifts}
 use Rattle.probe.proofs.spot.shifted.Goals as goal
 
-pub overflow_mul-result : goal.overflow_mul-result
-overflow_mul-result c =
-    let f = c.ranges.by in let g = c.ranges.w in
-    simp to_z-of_z (shifts c.args.coordinate c.args.by c.args.w c.requires.near c.requires.small c.requires.fine).way
-
 pub overflow_sub-result : goal.overflow_sub-result
 overflow_sub-result c =
     let f = c.ranges.by in let g = c.ranges.w in let h = c.ranges.coordinate in

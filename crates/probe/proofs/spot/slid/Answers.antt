@@ -1,4 +1,4 @@
-use Rattle.std.proofs.Common.{◌≡◌, ◌-ℤ◌, ◌*ℤ◌, sym, ap, ap₂, ◌∙◌, arith, w64, SFits, rules}
+use Rattle.std.proofs.Common.{sym, ap, ap₂, ◌∙◌, arith, w64, SFits, rules}
 use Rattle.std.proofs.lemmas.Int.{to_z-of_z}
 use Rattle.model.specs.Axes.{exact}
 use Rattle.model.specs.Placements.{translated}
@@ -41,13 +41,11 @@ returns c =
     let gx : SFits w64 u.x = search rules in
     let gy : SFits w64 u.y = search rules in
     let gz : SFits w64 u.z = search rules in
-    let x : c.shifted.result ≡ p.x -ℤ u.x *ℤ p.w = simp to_z-of_z at c.shifted.ensures in
-    let y : c.shifted-2.result ≡ p.y -ℤ u.y *ℤ p.w = simp to_z-of_z at c.shifted-2.ensures in
-    let z : c.shifted-3.result ≡ p.z -ℤ u.z *ℤ p.w = simp to_z-of_z at c.shifted-3.ensures in
-    c.new.ensures
-    ∙ ap spot_of ((λ i. record {
-      x = (to_z-of_z w64 c.shifted.result (search rules) ∙ x) i;
-      y = (to_z-of_z w64 c.shifted-2.result (search rules) ∙ y) i;
-      z = (to_z-of_z w64 c.shifted-3.result (search rules) ∙ z) i;
-      w = to_z-of_z w64 p.w fw i;
-    }) ∙ ap₂ translated b.0 c.point-x.ensures.is)
+    let sx : SFits w64 c.shifted.result = search rules in
+    let sy : SFits w64 c.shifted-2.result = search rules in
+    let sz : SFits w64 c.shifted-3.result = search rules in
+    let x = simp to_z-of_z at c.shifted.ensures in
+    let y = simp to_z-of_z at c.shifted-2.ensures in
+    let z = simp to_z-of_z at c.shifted-3.ensures in
+    let n = simp to_z-of_z at c.new.ensures in
+    n ∙ ap spot_of ((λ i. record { x = x i; y = y i; z = z i; w = p.w }) ∙ ap₂ translated b.0 c.point-x.ensures.is)

@@ -1,16 +1,16 @@
-use Rattle.std.proofs.Common.{◌≡◌, ℕ, ℤ, ap, ◌∙◌, arith, w64, SFits, rules}
+use Rattle.std.proofs.Common.{◌≡◌, ℕ, ℤ, ap, ap₂, ◌∙◌, arith, w64, SFits, rules}
 use mir.Syntax.{w128}
 use Rattle.std.proofs.lemmas.Int.{to_z-of_z}
 use Rattle.model.specs.Axes.{exact}
 use Rattle.model.specs.Placements.{Quarter, quarter, quarters, first, second, back, rotated}
 use Rattle.family.proofs.Fits.{reached}
 use Rattle.probe.specs.Moving.{Turned, spot_of}
-use Rattle.probe.proofs.Bounds.{kept, small_fits}
+use Rattle.probe.proofs.Bounds.{kept}
 use Rattle.probe.proofs.spot.turned.Goals as goal
 
 -- the numbers of a plane that a call turned back
-turned_is : (q : ℕ) (k : Quarter) (a b c d a' b' : ℤ) → quarters q ≡ k → a ≡ a' → b ≡ b' → Turned q a b c d → (c ≡ first (back k) a' b') × (d ≡ second (back k) a' b')
-turned_is q k a b c d a' b' e x y t = (t.first_is ∙ (λ i. first (back (e i)) (x i) (y i)), t.second_is ∙ (λ i. second (back (e i)) (x i) (y i)))
+turned_is : (q : ℕ) (k : Quarter) (a b c d : ℤ) → quarters q ≡ k → Turned q a b c d → (c ≡ first (back k) a b) × (d ≡ second (back k) a b)
+turned_is q k a b c d e t = (t.first_is ∙ ap (λ j. first (back j) a b) e, t.second_is ∙ ap (λ j. second (back j) a b) e)
 
 pub turn_back-x-requires : goal.turn_back-x-requires
 turn_back-x-requires c = let r = reached c.point-x.result c.point-x.ensures.near in
@@ -23,17 +23,27 @@ turn_back-z-requires c = let r = reached c.point-x.result c.point-x.ensures.near
 pub returns : goal.returns
 returns c =
     let v = c.args.vector in let p = c.point-x.result in
-    let qz = c.quarter.ensures ∙ ap quarter (to_z-of_z w128 v.z (search rules)) in
-    let qy = c.quarter-2.ensures ∙ ap quarter (to_z-of_z w128 v.y (search rules)) in
-    let qx = c.quarter-3.ensures ∙ ap quarter (to_z-of_z w128 v.x (search rules)) in
-    let z0 = to_z-of_z w64 c.turn_back-x.result.0 (small_fits _ 1000000000 c.turn_back-x.ensures.near_first (omega arith)) in
-    let z1 = to_z-of_z w64 c.turn_back-x.result.1 (small_fits _ 1000000000 c.turn_back-x.ensures.near_second (omega arith)) in
-    let y0 = to_z-of_z w64 c.turn_back-z.result.0 (small_fits _ 1000000000 c.turn_back-z.ensures.near_first (omega arith)) in
-    let y1 = to_z-of_z w64 c.turn_back-z.result.1 (small_fits _ 1000000000 c.turn_back-z.ensures.near_second (omega arith)) in
-    let x0 = to_z-of_z w64 c.turn_back-y.result.0 (small_fits _ 1000000000 c.turn_back-y.ensures.near_first (omega arith)) in
-    let x1 = to_z-of_z w64 c.turn_back-y.result.1 (small_fits _ 1000000000 c.turn_back-y.ensures.near_second (omega arith)) in
-    let tz = turned_is _ _ _ _ _ _ p.x p.y qz (to_z-of_z w64 p.x (search rules)) (to_z-of_z w64 p.y (search rules)) c.turn_back-x.ensures in
-    let ty = turned_is _ _ _ _ _ _ _ _ qy (to_z-of_z w64 p.z (search rules)) (z0 ∙ tz.0) c.turn_back-z.ensures in
-    let tx = turned_is _ _ _ _ _ _ _ _ qx (z1 ∙ tz.1) (y0 ∙ ty.0) c.turn_back-y.ensures in
-    let fw : SFits w64 p.w = search rules in
-    c.new.ensures ∙ ap spot_of ((λ j. record { x = (y1 ∙ ty.1) j; y = (x0 ∙ tx.0) j; z = (x1 ∙ tx.1) j; w = to_z-of_z w64 p.w fw j }) ∙ ap (rotated (exact v)) c.point-x.ensures.is)
+    let vx : SFits w128 v.x = search rules in
+    let vy : SFits w128 v.y = search rules in
+    let vz : SFits w128 v.z = search rules in
+    let px : SFits w64 p.x = search rules in
+    let py : SFits w64 p.y = search rules in
+    let pz : SFits w64 p.z = search rules in
+    let pw : SFits w64 p.w = search rules in
+    let x0 : SFits w64 c.turn_back-x.result.0 = search rules in
+    let x1 : SFits w64 c.turn_back-x.result.1 = search rules in
+    let z0 : SFits w64 c.turn_back-z.result.0 = search rules in
+    let z1 : SFits w64 c.turn_back-z.result.1 = search rules in
+    let y0 : SFits w64 c.turn_back-y.result.0 = search rules in
+    let y1 : SFits w64 c.turn_back-y.result.1 = search rules in
+    let tz = turned_is _ _ _ _ _ _ (simp to_z-of_z at c.quarter.ensures) (simp to_z-of_z at c.turn_back-x.ensures) in
+    let ty = turned_is _ _ _ _ _ _ (simp to_z-of_z at c.quarter-2.ensures) (simp to_z-of_z at c.turn_back-z.ensures) in
+    let tx = turned_is _ _ _ _ _ _ (simp to_z-of_z at c.quarter-3.ensures) (simp to_z-of_z at c.turn_back-y.ensures) in
+    let across = ty.0 ∙ ap (first (back (quarter v.y)) p.z) tz.0 in
+    let n = simp to_z-of_z at c.new.ensures in
+    n ∙ ap spot_of ((λ i. record {
+      x = (ty.1 ∙ ap (second (back (quarter v.y)) p.z) tz.0) i;
+      y = (tx.0 ∙ ap₂ (first (back (quarter v.x))) tz.1 across) i;
+      z = (tx.1 ∙ ap₂ (second (back (quarter v.x))) tz.1 across) i;
+      w = p.w;
+    }) ∙ ap (rotated (exact v)) c.point-x.ensures.is)

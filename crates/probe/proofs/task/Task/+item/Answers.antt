@@ -1,5 +1,4 @@
 use Rattle.std.proofs.Common.{◌∙◌, ap, Some, sym, subst}
-use Rattle.program.specs.declared.element.Item.TheVariants.{Whole, Placed}
 use Rattle.program.specs.Elements.{nodes_of}
 use Rattle.probe.specs.declared.task.Task.{Task}
 use Rattle.probe.specs.Walking.{Leads}
@@ -8,7 +7,7 @@ use Rattle.probe.proofs.task.Task.+item.Goals as goal
 
 pub returns-in-Some-Whole : goal.returns-in-Some-Whole
 returns-in-Some-Whole t c = λ m w h. let f = c.find_item in let i = c.in-Some-Whole in
-    subst (λ (y : Task). Leads (nodes_of c.args.layout.now) m c.args.self.now w y) (sym c.to.ensures)
+    subst (λ (y : Task). Leads (nodes_of c.args.layout.now) m c.args.self.now w y) (sym c.with_term.ensures)
     (led_whole _ m c.args.self.now c.args.k w h f.result f.ensures.finds f.ensures.behind i.term (i.is ∙ ap Some i.field-0-is))
 
 pub returns-in-Some-Placed : goal.returns-in-Some-Placed

@@ -1,4 +1,4 @@
-use Rattle.std.proofs.Common.{◌≡◌, ◌<◌, ◌≤◌, ◌∷◌, [], ◌++◌, vec_items, sym, ◌∙◌, arith}
+use Rattle.std.proofs.Common.{◌<◌, ◌≤◌, vec_items, arith}
 use Rattle.model.specs.Syntax.{solid, many}
 use Rattle.model.specs.Counts.{count}
 use Rattle.program.specs.Elements.{nodes_of}
