@@ -22,7 +22,8 @@ use Rattle.program.specs.declared.element.Term.{Term}
 use Rattle.program.specs.declared.element.Item.{Item}
 use Rattle.program.specs.declared.element.Item.TheVariants.{Whole, Placed}
 use Rattle.program.specs.Elements.{nodes_of, Begins, Behind, IsItem, TellsHere, part, Follows, Holds}
-use Rattle.program.proofs.Places.{few_nodes, span}
+use Rattle.program.proofs.Layouts.{few_nodes}
+use Rattle.program.proofs.Places.{span}
 
 -- a node that a bracket closes stands within the list
 inside : (nodes : List Node) (place : ℕ) (n : Node) → n ≡ get_or nodes place v.Empty → 0 < length (closing_text n) → place < length nodes

@@ -5,23 +5,20 @@ use Rattle.std.proofs.lemmas.List.{drop_more}
 use Rattle.model.specs.declared.node.Node.{Node}
 use Rattle.model.specs.declared.table.Table.{Table}
 use Rattle.model.specs.Limits.{most_unrolled}
-use Rattle.model.specs.Syntax.{Expr, one, solid, node}
+use Rattle.model.specs.Syntax.{one, solid}
 use Rattle.model.specs.Nodes.{flatten}
 use Rattle.model.specs.Tables.{held}
 use Rattle.model.proofs.Holding.{program_nodes}
+use Rattle.model.proofs.Readable.{length_flatten}
 use Rattle.program.specs.declared.layout.Layout.{Layout}
 use Rattle.program.specs.Measures.{Tells, cap, measure, nothing}
-use Rattle.program.proofs.Told.{tells}
+use Rattle.program.proofs.Told.{some_node, tells}
 
 pub stands : (t : Table) → vec_items t.nodes ≡ flatten (held t) ++ []
 stands t = sym (program_nodes (vec_items t.nodes) t.program) ∙ sym (append-nil (flatten (held t)))
 
-some_node : (e : Expr (one solid)) → 0 < length (flatten e)
-unfolding flatten
-some_node (node h es) = omega arith
-
 pub some_nodes : (t : Table) → 0 < length (vec_items t.nodes)
-some_nodes t = let some = some_node (held t) in omega (arith, ap length (program_nodes (vec_items t.nodes) t.program))
+some_nodes t = omega (arith, some_node (held t), length_flatten (held t), ap length (program_nodes (vec_items t.nodes) t.program))
 
 pub few_nodes : (l : Layout) → length (vec_items l.table.nodes) ≤ 640
 few_nodes l = omega (arith, l.table.few, l.table.nodes.ok.0)

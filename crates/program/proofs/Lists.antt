@@ -20,7 +20,8 @@ use Rattle.program.specs.declared.layout.Layout.{Layout}
 use Rattle.program.specs.declared.measure.Measure.{Measure}
 use Rattle.program.specs.declared.element.Term.{Term}
 use Rattle.program.specs.Elements.{nodes_of, Begins, TellsHere, part, Follows, Comes, Holds, Hops, Maps}
-use Rattle.program.proofs.Places.{few_nodes, span}
+use Rattle.program.proofs.Layouts.{few_nodes}
+use Rattle.program.proofs.Places.{span}
 use Rattle.program.proofs.Hopping.{comes_as}
 use Rattle.program.proofs.Items.{under, opened, part_begins, part_run, Pair, pair, left_begins, right_begins, head_here}
 

@@ -2,31 +2,24 @@
 use Rattle.std.proofs.Common.{◌≡◌, ℕ, ◌+◌, ◌-◌, ◌^◌, ◌<◌, ◌≤◌, min, List, ◌++◌, length, get_or, drop, vec_items, sym, refl, ap, ◌∙◌, arith, length-append, length-drop}
 use Rattle.std.proofs.lemmas.List.{drop-drop, drop_at}
 use Rattle.model.specs.declared.node.Node.{Node}
-use Rattle.model.specs.Syntax.{Sort, Expr, node}
+use Rattle.model.specs.Syntax.{Sort, Expr}
 use Rattle.model.specs.Nodes.{flatten}
 use Rattle.model.proofs.Readable.{length_flatten}
 use Rattle.program.specs.declared.layout.Layout.{Layout}
 use Rattle.program.specs.declared.measure.Measure.{Measure}
 use Rattle.program.specs.Measures.{nothing}
-use Rattle.program.proofs.Told.{tells}
+use Rattle.program.proofs.Told.{some_node, tells}
+use Rattle.program.proofs.Layouts.{few_nodes}
 use Rattle.program.specs.Elements.{nodes_of, TellsHere}
-
-pub few_nodes : (l : Layout) → length (nodes_of l) ≤ 640
-few_nodes l = omega (arith, l.table.few, l.table.nodes.ok.0)
 
 pub told_at : (l : Layout) (place : ℕ) (ms : List Measure) → ms ≡ vec_items l.measures → TellsHere (nodes_of l) place (get_or ms place nothing)
 told_at l place ms is s e rest stands = ap (λ x. get_or x place nothing) (is ∙ l.told) ∙ tells (nodes_of l) place s e rest stands
-
--- an expression has a node
-some_node : {s : Sort} (e : Expr s) → 0 < length (flatten e)
-unfolding flatten
-some_node (node h es) = omega arith
 
 -- the nodes of an expression that stands at a place
 pub span : (nodes : List Node) (place : ℕ) {s : Sort} (e : Expr s) (rest : List Node) → drop place nodes ≡ flatten e ++ rest
     → (0 < length (flatten e)) × (place + length (flatten e) ≤ length nodes)
 span nodes place e rest stands =
-    let some = some_node e in
+    let some : 0 < length (flatten e) = omega (arith, some_node e, length_flatten e) in
     let long = ap length stands ∙ length-append (flatten e) rest in
     let cut = length-drop place nodes in
     (some, omega arith)

@@ -100,7 +100,8 @@ measures_drop (suc place) (n ∷ nodes) = measures_drop place nodes
 past : {s : Sort} (e : Expr s) (rest : List Node) → drop (size e) (flatten e ++ rest) ≡ rest
 past e rest = drop_at (flatten e) rest (size e) (length_flatten e)
 
-some_node : {s : Sort} (e : Expr s) → 0 < size e
+-- an expression has a node
+pub some_node : {s : Sort} (e : Expr s) → 0 < size e
 unfolding size
 some_node (node h es) = omega arith
 

@@ -6,7 +6,7 @@ use Rattle.model.specs.Placements.{at}
 use Rattle.model.specs.Unrolling.{primitive}
 use Rattle.program.specs.Elements.{nodes_of}
 use Rattle.program.proofs.Items.{first_part}
-use Rattle.program.proofs.Places.{few_nodes}
+use Rattle.program.proofs.Layouts.{few_nodes}
 use Rattle.probe.specs.Moving.{moves}
 use Rattle.probe.specs.Walking.{asked, holds, resume}
 use Rattle.probe.proofs.Frames.{resume_none}

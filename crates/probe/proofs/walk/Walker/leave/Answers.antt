@@ -3,7 +3,7 @@ use Rattle.model.specs.Syntax.{solid, many}
 use Rattle.model.specs.Counts.{count}
 use Rattle.program.specs.Elements.{nodes_of}
 use Rattle.program.proofs.Items.{list_long}
-use Rattle.program.proofs.Places.{few_nodes}
+use Rattle.program.proofs.Layouts.{few_nodes}
 use Rattle.probe.specs.declared.task.Frame.TheVariants.{Rest}
 use Rattle.probe.specs.Terms.{term}
 use Rattle.probe.specs.Walking.{asked, walking}
