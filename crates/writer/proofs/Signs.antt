@@ -1,19 +1,9 @@
 -- Signs and zeros of numbers, and how numbers are spelled at each. Assumes nothing.
-use Rattle.std.proofs.Common.{◌≡◌, zero, suc, ◌^◌, ◌<◌, true, false, [], ◌∷◌, ◌++◌, ℤ, pos, negsuc, nat_abs, decimal, sym, refl, ap, ◌∙◌, arith, w64, SFits, to_z, of_z}
+use Rattle.std.proofs.Common.{◌≡◌, zero, suc, ◌^◌, ◌<◌, true, false, [], ◌∷◌, ◌++◌, ℤ, pos, negsuc, nat_abs, decimal, sym, refl, arith, w64, SFits, of_z}
 use lib.Signed.{lt_z}
-use mir.Syntax.{w128}
 use Rattle.std.specs.Fmt.{signed_decimal}
-use Rattle.std.proofs.lemmas.Int.{to_z-of_z}
 use Rattle.std.proofs.lemmas.Bool.{ltb-true, true≢false, cond-true}
 use Rattle.model.specs.Bytes.{is_zero, change, numeral}
-
-pub signed_from_zero : (z : ℤ) → lt_z z (pos 0) ≡ false → signed_decimal z ≡ decimal (nat_abs z)
-signed_from_zero (pos n) h = refl
-signed_from_zero (negsuc n) h = absurd (true≢false h)
-
-pub signed_below_zero : (z : ℤ) → lt_z z (pos 0) ≡ true → signed_decimal z ≡ 45 ∷ decimal (nat_abs z)
-signed_below_zero (pos n) h = absurd (let l = ltb-true n 0 h in omega arith)
-signed_below_zero (negsuc n) h = refl
 
 pub change_from_zero : (z : ℤ) → lt_z z (pos 0) ≡ false → change z ≡ 43 ∷ decimal (nat_abs z)
 change_from_zero (pos n) h = refl
@@ -42,12 +32,3 @@ numeral_slope a c f n z = simp (zero_from_bits a f z, some_from_bits c n) refl
 
 pub numeral_both : (a c : ℤ) → (of_z w64 c ≡ 0 → ⊥) → (of_z w64 a ≡ 0 → ⊥) → (signed_decimal a ++ change c) ++ (105 ∷ []) ≡ numeral a c
 numeral_both a c n m = simp (some_from_bits a m, some_from_bits c n) refl
-
--- a number in twice as many bits is the same
-wide_fits : (z : ℤ) → SFits w64 z → SFits w128 z
-wide_fits z f = record { sfits = omega (arith, f.sfits) }
-
-pub widened : (r z : ℤ) → SFits w64 z → r ≡ to_z w64 (of_z w64 z) → to_z w128 (of_z w128 r) ≡ z
-widened r z f e =
-    let same = e ∙ to_z-of_z w64 z f in
-    ap (λ x. to_z w128 (of_z w128 x)) same ∙ to_z-of_z w128 z (wide_fits z f)

@@ -20,11 +20,11 @@ fn put_triple(sink: &mut Sink, v: Wide)
     ensures { Puts (spells true (bracket (still (exact v)))) sink.old sink.new }
 {
     sink.byte(b'[');
-    sink.signed(v.x);
+    sink.integer(v.x);
     sink.byte(b',');
-    sink.signed(v.y);
+    sink.integer(v.y);
     sink.byte(b',');
-    sink.signed(v.z);
+    sink.integer(v.z);
     sink.byte(b']');
 }
 
@@ -32,7 +32,7 @@ fn put_primitive(sink: &mut Sink, kind: i64, sizes: Wide)
     ensures { Puts (text_of (programs.prim kind (exact sizes))) sink.old sink.new }
 {
     sink.bytes(b"(Prim ");
-    sink.signed(i128::from(kind));
+    sink.integer(kind);
     sink.byte(b' ');
     put_triple(sink, sizes);
     sink.byte(b')');

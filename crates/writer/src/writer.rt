@@ -55,7 +55,7 @@ fn put_opening(sink: &mut Sink, node: Node)
         Node::Empty => sink.bytes(b"Empty"),
         Node::Primitive(kind, size) => {
             sink.bytes(b"(Prim ");
-            sink.signed(i128::from(kind));
+            sink.integer(kind);
             sink.byte(b' ');
             put_bracket(sink, size);
         }
@@ -70,11 +70,11 @@ fn put_opening(sink: &mut Sink, node: Node)
         Node::List(_) => sink.bytes(b"(List"),
         Node::Repeat(n) => {
             sink.bytes(b"(Repeat ");
-            sink.signed(i128::from(n));
+            sink.integer(n);
         }
         Node::Tabulate(n) => {
             sink.bytes(b"(Tabulate (i ");
-            sink.signed(i128::from(n));
+            sink.integer(n);
             sink.byte(b')');
         }
         Node::Concat => sink.bytes(b"(Concat"),
@@ -84,7 +84,7 @@ fn put_opening(sink: &mut Sink, node: Node)
             sink.bytes(b"(Map2 ");
             sink.bytes(Word::from(placement).spelling());
         }
-        Node::Number(n) => sink.decimal(n as u128),
+        Node::Number(n) => sink.integer(n),
     }
 }
 

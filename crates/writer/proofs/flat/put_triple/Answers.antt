@@ -15,4 +15,4 @@ returns c =
     let y = to_z-of_z w128 v.y fy in
     let z = to_z-of_z w128 v.z fz in
     puts_as (λ i. 91 ∷ (signed_decimal (x i) ++ (44 ∷ (signed_decimal (y i) ++ (44 ∷ (signed_decimal (z i) ++ (93 ∷ [])))))))
-    (puts_then c.byte.ensures (puts_then c.signed.ensures (puts_then c.byte-2.ensures (puts_then c.signed-2.ensures (puts_then c.byte-3.ensures (puts_then c.signed-3.ensures c.byte-4.ensures))))))
+    (puts_then c.byte.ensures (puts_then c.integer.ensures (puts_then c.byte-2.ensures (puts_then c.integer-2.ensures (puts_then c.byte-3.ensures (puts_then c.integer-3.ensures c.byte-4.ensures))))))

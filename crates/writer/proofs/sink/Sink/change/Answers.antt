@@ -15,5 +15,5 @@ returns c =
       | then-slope-lt0 w ↦ ap (λ b. b ∷ digits) w.sign-is ∙ sym (change_below_zero bits w.if-slope-lt0.true)
       | else-slope-lt0 w ↦ ap (λ b. b ∷ digits) w.sign-is ∙ sym (change_from_zero bits w.if-slope-lt0.false)
     ] in
-    puts_as (ap (λ n. c.if-slope-lt0.sign ∷ decimal n) (c.from.ensures ∙ c.unsigned_abs.ensures.value) ∙ spelt ∙ ap change (to_z-of_z w64 c.args.slope c.ranges.slope))
-    (puts_then c.byte.ensures c.decimal.ensures)
+    puts_as (ap (λ n. c.if-slope-lt0.sign ∷ decimal n) c.unsigned_abs.ensures.value ∙ spelt ∙ ap change (to_z-of_z w64 c.args.slope c.ranges.slope))
+    (puts_then c.byte.ensures c.integer.ensures)
