@@ -65,8 +65,8 @@ impl Lexer<'_> {
         }
     }
 
-    // The word `Union` after `Fold`. It and `index_word` differ in their goals as well: one function of
-    // the word would need a table from words to goals, and be longer than both.
+    // The word `Union` after `Fold`. One function for it and `index_word` would need a table from words
+    // to goals, and the equality of words, and be longer.
     pub(crate) fn union_word(&mut self) -> Result<(), Refusal>
         ensures ahead { Ahead self.old result self.new }
         ensures took { Took (λ _. tokens.word word.Union ∷ []) self.old result self.new }

@@ -51,7 +51,7 @@ fn mark_of(b: u8) -> Option<Mark>
     }
 }
 
-// What stands in a part of the text; nothing is refused.
+// The token that a part of the text is; a part that is none is refused.
 fn token_in(kind: Option<TokenKind>, span: Span) -> Result<Token, Refusal>
     ensures { Tells (stands (option_map spoken kind) span.at span.len) result }
 {
@@ -81,7 +81,7 @@ fn token_at(text: &[u8], at: usize) -> Result<Token, Refusal>
     token_in(mark_of(first).map(TokenKind::Mark), Span { at, len: 1 })
 }
 
-impl<'a> Lexer<'a> {
+impl Lexer<'_> {
     /// The next token, moving past it, or None at the end. A bad run or byte is refused.
     pub(crate) fn next(&mut self) -> Result<Option<Token>, Refusal>
         ensures same { self.new.text.now ≡ self.old.text.now }

@@ -16,6 +16,7 @@ use super::form::{Element, ListForm, SolidForm, list_form, solid_form};
 use super::token::{Lexer, Token, TokenKind};
 use model::{Draft, MOST_LEVELS, MOST_NODES, Mark, Node, Refusal, Span, Word};
 
+// Not a pattern in `elements`: past one the proof does not know what the token is not.
 fn is_close(token: Token) -> bool
     ensures { result ≡ closes (token_of token) }
 {
