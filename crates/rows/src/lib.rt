@@ -33,6 +33,7 @@ pub fn read_rows(heap: Global, bytes: &[u8]) -> Result<Vec<Row>, Unreadable>
     ensures { MatchResult result (λ v. Says bytes.now v.items) (Refuses bytes.now) }
 {
     let mut rows = Vec::new(heap);
+    // After a line feed at the end stands an empty part, which is no line, but says nothing either.
     for (i, line) in bytes.split(|b| *b == b'\n').enumerate() {
         let said = line_of(line).map_err(|_| Unreadable::Row { line: i + 1 })?;
         if let Some(row) = said {
