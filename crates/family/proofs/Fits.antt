@@ -1,5 +1,5 @@
 -- Products and sums that fit their types.
-use Rattle.std.proofs.Common.{◌≡◌, ℕ, zero, suc, ◌*◌, ◌^◌, ◌≤◌, true, ◌&&◌, eqb, ℤ, pos, negsuc, ◌+ℤ◌, ◌*ℤ◌, neg_ℤ, nat_abs, refl, mul-le-mul, arith, w64, SFits}
+use Rattle.std.proofs.Common.{◌≡◌, ℕ, zero, suc, ◌*◌, ◌≤◌, true, ◌&&◌, eqb, ℤ, pos, negsuc, ◌+ℤ◌, ◌*ℤ◌, neg_ℤ, nat_abs, refl, mul-le-mul, arith, w64, SFits}
 use borrow.Author.Differences.{ints}
 use lib.Signed.{le_z}
 use mir.Syntax.{w128}
@@ -23,14 +23,6 @@ abs_mul (negsuc a) (negsuc b) = refl
 -- a product is at most the product of the bounds
 pub abs_bound : (a b : ℤ) (m n : ℕ) → nat_abs a ≤ m → nat_abs b ≤ n → nat_abs (a *ℤ b) ≤ m * n
 abs_bound a b m n p q = rw (abs_mul a b) (mul-le-mul p q)
-
-pub product_fits : (a b : ℤ) → SFits w64 a → SFits w64 b → SFits w128 (a *ℤ b)
-product_fits a b p q =
-    let m : nat_abs (a *ℤ b) ≤ 2 ^ 63 * 2 ^ 63 = abs_bound a b (2 ^ 63) (2 ^ 63) (omega (arith, ints)) (omega (arith, ints)) in
-    small (a *ℤ b) m
-  where
-    small : (z : ℤ) → nat_abs z ≤ 85070591730234615865843651857942052864 → SFits w128 z
-    small z h = omega (arith, ints)
 
 -- a coordinate in reach
 pub near_abs : (v : ℤ) → near v ≡ true → nat_abs v ≤ 1000000000
@@ -77,15 +69,19 @@ radius_fits r p e f =
 far_product : (a x : ℤ) → SFits w64 a → nat_abs x ≤ 1000000000 → nat_abs (a *ℤ x) ≤ 9223372036854775808000000000
 far_product a x f h = abs_bound a x 9223372036854775808 1000000000 (omega (arith, ints)) h
 
--- the sums of such products
-pub record SumsFit (a b c : ℤ) : Type 0 where
-  pub two : SFits w128 (a +ℤ b)
-  pub three : SFits w128 (a +ℤ b +ℤ c)
-
-pub sums_fit : (p q r : ℤ) (at : Point) → SFits w64 p → SFits w64 q → SFits w64 r → in_reach at ≡ true → SumsFit (p *ℤ at.x) (q *ℤ at.y) (r *ℤ at.z)
-sums_fit p q r at fp fq fr e =
+-- two such products, and three
+pub two_fit : (p q : ℤ) (at : Point) → SFits w64 p → SFits w64 q → in_reach at ≡ true → SFits w128 (p *ℤ at.x +ℤ q *ℤ at.y)
+two_fit p q at fp fq e =
     let n = reached at e in
-    sums (p *ℤ at.x) (q *ℤ at.y) (r *ℤ at.z) (far_product p at.x fp n.x) (far_product q at.y fq n.y) (far_product r at.z fr n.z)
+    sum (p *ℤ at.x) (q *ℤ at.y) (far_product p at.x fp n.x) (far_product q at.y fq n.y)
   where
-    sums : (a b c : ℤ) → nat_abs a ≤ 9223372036854775808000000000 → nat_abs b ≤ 9223372036854775808000000000 → nat_abs c ≤ 9223372036854775808000000000 → SumsFit a b c
-    sums a b c ha hb hc = record { two = omega (arith, ints); three = omega (arith, ints) }
+    sum : (a b : ℤ) → nat_abs a ≤ 9223372036854775808000000000 → nat_abs b ≤ 9223372036854775808000000000 → SFits w128 (a +ℤ b)
+    sum a b ha hb = omega (arith, ints)
+
+pub three_fit : (p q r : ℤ) (at : Point) → SFits w64 p → SFits w64 q → SFits w64 r → in_reach at ≡ true → SFits w128 (p *ℤ at.x +ℤ q *ℤ at.y +ℤ r *ℤ at.z)
+three_fit p q r at fp fq fr e =
+    let n = reached at e in
+    sum (p *ℤ at.x) (q *ℤ at.y) (r *ℤ at.z) (far_product p at.x fp n.x) (far_product q at.y fq n.y) (far_product r at.z fr n.z)
+  where
+    sum : (a b c : ℤ) → nat_abs a ≤ 9223372036854775808000000000 → nat_abs b ≤ 9223372036854775808000000000 → nat_abs c ≤ 9223372036854775808000000000 → SFits w128 (a +ℤ b +ℤ c)
+    sum a b c ha hb hc = omega (arith, ints)

@@ -11,5 +11,5 @@ pub(crate) fn within(least: i64, value: i64, most: i64) -> bool
 pub(crate) fn product(a: i64, b: i64) -> i128
     ensures { result ≡ a *ℤ b }
 {
-    a as i128 * b as i128
+    i128::from(a) * i128::from(b)
 }

@@ -36,7 +36,7 @@ fn is_cylinder(primitive: &Primitive) -> bool
 fn is_along(value: i64, length: i64, w: i64) -> bool
     ensures { result ≡ along value length w }
 {
-    0 <= value && value as i128 <= product(length, w)
+    0 <= value && i128::from(value) <= product(length, w)
 }
 
 /// Above the base, below it or on it.

@@ -3,11 +3,12 @@ use Rattle.std.specs.Prelude.{ℕ, Bool, cond, ◌&&◌, List, length, drop, ℤ
 use Rattle.std.specs.Option.{option_map}
 use Rattle.std.specs.Bool.{then_some}
 use Rattle.std.specs.Str.Parse.{digits_value}
-use Rattle.std.specs.Str.{all_ascii_digits}
+use Rattle.std.specs.List.{list_all}
+use Rattle.std.specs.Char.{is_ascii_digit}
 
 -- one to eighteen digits
 abbrev pub natural : List ℕ → Bool
-natural word = nat_lt 0 (length word) && (nat_le (length word) 18 && all_ascii_digits word)
+natural word = nat_lt 0 (length word) && (nat_le (length word) 18 && list_all is_ascii_digit word)
 
 -- and their value
 unfoldable pub natural_of : List ℕ → Option ℕ

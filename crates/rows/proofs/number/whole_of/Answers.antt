@@ -1,21 +1,26 @@
-use Rattle.std.proofs.Common.{◌≡◌, length, get_or, pos, sym, ap, ◌∙◌, arith}
+use Rattle.std.proofs.Common.{◌≡◌, true, false, eqb, List, [], ◌∷◌, ℕ, get_or, drop, take, pos, neg_ℤ, Some, None, Option, refl, sym, ap, ◌∙◌, arith, rules}
+use lib.Pointwise.{pointwise}
 use Rattle.std.specs.Option.{option_map}
-use Rattle.std.proofs.lemmas.List.{get_or_past}
-use Rattle.std.proofs.lemmas.Slice.{between_to_end}
 use Rattle.rows.specs.Numbers.{natural_of, minus}
 use Rattle.rows.proofs.Naturals.{whole_minus, whole_plain}
 use Rattle.rows.proofs.number.whole_of.Goals as goal
-use Rattle.rows.proofs.number.whole_of.Goals.{else-word-gt0-via-then-word-gt0+else-word-eq45, else-word-gt0-via-else-word-gt0}
 
-pub returns-then-word-eq45 : goal.returns-then-word-eq45
-returns-then-word-eq45 c =
-    let rest = between_to_end c.args.word.now 1 (length c.args.word.now) (omega arith) in
-    c.negative.ensures ∙ ap (option_map minus) (c.natural_of.ensures.value ∙ ap natural_of rest) ∙ sym (whole_minus c.args.word.now (omega arith))
+begins : (word : List ℕ) → pointwise eqb (take 1 word) (45 ∷ []) ≡ true → get_or word 0 0 ≡ 45
+begins [] e = grind arith
+begins (b ∷ word) e = grind arith
 
-pub returns-else-word-gt0 : goal.returns-else-word-gt0
-returns-else-word-gt0 c =
-    let first : get_or c.args.word.now 0 0 ≡ 45 → ⊥ = elim c.else-word-gt0.branch [
-      | else-word-gt0-via-then-word-gt0+else-word-eq45 w ↦ w.if-word-eq45.false
-      | else-word-gt0-via-else-word-gt0 w ↦ λ e. omega (arith, get_or_past c.args.word.now 0 0 (omega arith))
-    ] in
-    c.positive.ensures ∙ ap (option_map pos) c.natural_of-else-word-gt0.ensures.value ∙ sym (whole_plain c.args.word.now first)
+other : (word : List ℕ) → pointwise eqb (take 1 word) (45 ∷ []) ≡ false → get_or word 0 0 ≡ 45 → ⊥
+other [] n e = grind arith
+other (b ∷ word) n e = grind arith
+
+negated : (n : Option ℕ) → option_map neg_ℤ (option_map pos n) ≡ option_map minus n
+negated None = refl
+negated (Some n) = refl
+
+pub returns-in-Some : goal.returns-in-Some
+returns-in-Some c =
+    let e : c.map.result ≡ option_map neg_ℤ c.natural_of.result = search rules in
+    e ∙ ap (option_map neg_ℤ) (c.natural_of.ensures ∙ ap (λ w. option_map pos (natural_of w)) c.in-Some.ensures.cases.1) ∙ negated (natural_of (drop 1 c.args.word.now)) ∙ sym (whole_minus c.args.word.now (begins c.args.word.now c.in-Some.ensures.cases.0))
+
+pub returns-in-None : goal.returns-in-None
+returns-in-None c = c.natural_of-in-None.ensures ∙ sym (whole_plain c.args.word.now (other c.args.word.now c.in-None.ensures.cases))
