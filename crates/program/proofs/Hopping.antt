@@ -1,5 +1,5 @@
 -- Terms in a row. Assumes nothing.
-use Rattle.std.proofs.Common.{◌≡◌, ℕ, zero, suc, List, ◌∷◌, ◌++◌, get_or, sym, ap, ◌∙◌, subst, append_assoc, arith}
+use Rattle.std.proofs.Common.{◌≡◌, ℕ, zero, suc, List, ◌∷◌, ◌++◌, get_or, sym, ap, ◌∙◌, append_assoc, arith}
 use Rattle.std.proofs.lemmas.Bool.{and_parts}
 use Rattle.model.specs.declared.node.Node.{Node}
 use Rattle.model.specs.Syntax.{Kind, one, Solid, more, textual, textuals}
@@ -11,9 +11,6 @@ use Rattle.program.specs.Elements.{Comes, Follows, Hops}
 
 pub comes_as : {nodes : List Node} {t : Term} {k : Kind} {x y : Val Solid k} → x ≡ y → Comes programs nodes t k x → Comes programs nodes t k y
 comes_as e c = record { expr = c.expr; begins = c.begins; is = c.is ∙ e }
-
-pub hops_as : (nodes : List Node) (t r : Term) {i j : ℕ} → i ≡ j → Hops programs nodes t i r → Hops programs nodes t j r
-hops_as nodes t r e h = let P : ℕ → Type 0 = λ n. Hops programs nodes t n r in subst P e h
 
 -- the first term
 pub hop_none : (nodes : List Node) (t : Term) (j : ℕ) → j ≡ 0 → Hops programs nodes t j t

@@ -13,5 +13,6 @@ pub mod Loads
 pub mod Places
 pub mod Hopping
 pub mod Items
+pub mod Lists
 pub mod Taken
 pub mod Solids

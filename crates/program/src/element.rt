@@ -123,6 +123,7 @@ impl Layout {
     {
         match self.find_item(list, k) {
             Some(Item::Whole(term)) => self.vector_at(term),
+            // Not one arm: the proof's goals at an or-pattern have no lasting names.
             Some(Item::Placed(_, _)) => ZEROS,
             None => ZEROS,
         }

@@ -3,11 +3,6 @@ pub mod Signs
 pub mod Programs
 pub mod Tables
 pub mod Digits
-pub mod Places
-pub mod Linears
-pub mod Hopping
-pub mod Items
 pub mod Unions
-pub mod Solids
 pub mod Parts
 pub mod Smalls

@@ -6,14 +6,14 @@ use Rattle.model.specs.Syntax.{solid}
 use Rattle.model.specs.Tables.{held}
 use Rattle.model.specs.Texts.{feed_of}
 use Rattle.model.specs.Tokens.{tokens}
-use Rattle.model.specs.Unrolling.{unroll}
+use Rattle.model.specs.Unrolling.{programs, unroll}
 use Rattle.program.specs.declared.part.Part.{Part}
-use Rattle.writer.specs.Elements.{nodes_of, Comes}
+use Rattle.program.specs.Elements.{nodes_of, Comes}
 use Rattle.model.proofs.Respelled.{lexes_back}
 use Rattle.writer.proofs.Smalls.{small_unrolling}
 use Rattle.writer.proofs.Tables.{held_nodes, front}
 
-pub part_comes : (p : Part) → Comes (nodes_of p.layout) (record { place = 0; index = 0 }) solid (unroll (held p.layout.table))
+pub part_comes : (p : Part) → Comes programs (nodes_of p.layout) (record { place = 0; index = 0 }) solid (unroll (held p.layout.table))
 unfolding unroll
 part_comes p =
     record {

@@ -1,4 +1,3 @@
 pub mod Putting
 pub mod Writing
-pub mod Elements
 pub mod Unrolls

@@ -14,9 +14,9 @@ use Rattle.model.specs.Feed.{said, Clean}
 use Rattle.model.specs.Texts.{feed_of}
 use Rattle.model.specs.Unrolling.{programs, unroll}
 use Rattle.writer.specs.declared.writer.Unwritten.{Unwritten}
-use Rattle.writer.specs.declared.element.Term.{Term}
+use Rattle.program.specs.declared.element.Term.{Term}
 use Rattle.writer.specs.Putting.{Put}
-use Rattle.writer.specs.Elements.{Begins, Comes, Holds}
+use Rattle.program.specs.Elements.{Begins, Comes, Holds}
 
 -- what is written before a solid that is placed
 abbrev pub placing : Placement → Triple → List ℕ
@@ -28,11 +28,11 @@ joining o = opening_text (v.Join o) ++ (32 ∷ [])
 
 -- what the term comes to was put
 abbrev pub SolidPut : List Node → Term → ℕ → List ℕ → ℕ → List ℕ → Type 0
-SolidPut nodes t i old e new = (x : Solid) → Comes nodes t solid x → Put i (text_of x) old e new
+SolidPut nodes t i old e new = (x : Solid) → Comes programs nodes t solid x → Put i (text_of x) old e new
 
 -- what the element j of a list comes to was put
 abbrev pub ItemPut : List Node → Term → ℕ → ℕ → List ℕ → ℕ → List ℕ → Type 0
-ItemPut nodes t j i old e new = (x : Solid) → Holds nodes t j solid x → Put i (text_of x) old e new
+ItemPut nodes t j i old e new = (x : Solid) → Holds programs nodes t j solid x → Put i (text_of x) old e new
 
 -- the union of a list's elements was put
 abbrev pub UnionPut : List Node → Term → ℕ → List ℕ → ℕ → List ℕ → Type 0

@@ -1,20 +1,20 @@
 // Writes the unrolling of a part as its text, without building it.
 ghost use Rattle.std.specs.Prelude.{Bool, true, replicate};
 ghost use Rattle.model.specs.Tokens.{bracket};
+ghost use Rattle.model.specs.Axes.{exact};
 ghost use Rattle.model.specs.Placements.{still};
 ghost use Rattle.model.specs.Spelling.{spells, text_of};
 ghost use Rattle.model.specs.Tables.{held};
 ghost use Rattle.model.specs.Unrolling.{programs, unroll as unrolling, UnrolledValues};
 ghost use Rattle.writer.specs.Putting.{Put};
 ghost use Rattle.writer.specs.Writing.{Wrote};
-ghost use Rattle.writer.specs.Elements.{nodes_of, exact};
+ghost use Rattle.program.specs.Elements.{nodes_of};
 ghost use Rattle.writer.specs.Unrolls.{placing, joining, SolidPut, ItemPut, UnionPut, SaysUnrolling};
 
 use crate::decimal::{put_byte, put_bytes, put_signed};
-use crate::element::{Item, Term, Wide, find_item, measure_at, node_at, vector_at, vector_item};
 use crate::writer::{Unwritten, operator_name, placement_name, put_open};
-use model::{Node, Operator, Placement};
-use program::{Layout, Part};
+use model::{Node, Operator, Placement, Wide};
+use program::{Item, Layout, Part, Term};
 
 fn put_triple(out: &mut [u8], at: usize, v: Wide) -> usize
     ensures { Put at (spells true (bracket (still (exact v)))) out.old result out.new }
@@ -73,11 +73,11 @@ fn put_solid(out: &mut [u8], layout: &Layout, term: Term, at: usize) -> usize
     ensures { SolidPut (nodes_of layout.now) term at out.old result out.new }
 {
     let first = term.part();
-    match node_at(layout, term.place) {
+    match layout.node_at(term.place) {
         Node::Empty => put_bytes(out, at, b"Empty"),
-        Node::Primitive(kind, sizes) => put_primitive(out, at, kind, vector_at(sizes, term.index)),
+        Node::Primitive(kind, sizes) => put_primitive(out, at, kind, sizes.at(term.index)),
         Node::Place(placement, v) => {
-            let next = put_placing(out, at, placement, vector_at(v, term.index));
+            let next = put_placing(out, at, placement, v.at(term.index));
             let next = put_solid(out, layout, first, next);
             put_byte(out, next, b')')
         }
@@ -99,7 +99,7 @@ fn put_solid(out: &mut [u8], layout: &Layout, term: Term, at: usize) -> usize
 fn put_union(out: &mut [u8], layout: &Layout, list: Term, at: usize) -> usize
     ensures { UnionPut (nodes_of layout.now) list at out.old result out.new }
 {
-    let count = measure_at(layout, list.place).elements;
+    let count = layout.measure_at(list.place).elements;
     if count == 0 {
         return put_bytes(out, at, b"Empty");
     }
@@ -119,11 +119,11 @@ fn put_union(out: &mut [u8], layout: &Layout, list: Term, at: usize) -> usize
 fn put_item(out: &mut [u8], layout: &Layout, list: Term, k: u128, at: usize) -> usize
     ensures { ItemPut (nodes_of layout.now) list k at out.old result out.new }
 {
-    match find_item(layout, list, k) {
-        Item::Absent => at,
-        Item::Whole(term) => put_solid(out, layout, term, at),
-        Item::Placed(placement, both) => {
-            let v = vector_item(layout, both.vectors, both.k);
+    match layout.find_item(list, k) {
+        None => at,
+        Some(Item::Whole(term)) => put_solid(out, layout, term, at),
+        Some(Item::Placed(placement, both)) => {
+            let v = layout.vector_item(both.vectors, both.k);
             let next = put_placing(out, at, placement, v);
             let next = put_item(out, layout, both.solids, both.k, next);
             put_byte(out, next, b')')

@@ -2,7 +2,6 @@
 #![tactic(auto)]
 
 mod decimal;
-mod element;
 mod flat;
 mod writer;
 

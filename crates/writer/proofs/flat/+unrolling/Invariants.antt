@@ -3,7 +3,7 @@ use Rattle.model.specs.Syntax.{Expr, many, solid}
 use Rattle.model.specs.Shapes.{run}
 use Rattle.model.specs.Unrolling.{programs}
 use Rattle.writer.specs.Putting.{Put}
-use Rattle.writer.specs.Elements.{nodes_of, Begins}
+use Rattle.program.specs.Elements.{nodes_of, Begins}
 use Rattle.writer.proofs.Unions.{unions}
 use Rattle.writer.proofs.flat.+unrolling.Given as goal
 

@@ -2,7 +2,7 @@ use Rattle.std.proofs.Common.{true, [], ◌∷◌, ◌++◌, ap}
 use Rattle.model.specs.Tokens.{bracket}
 use Rattle.model.specs.Placements.{still}
 use Rattle.model.specs.Spelling.{spells}
-use Rattle.writer.specs.Elements.{exact}
+use Rattle.model.specs.Axes.{exact}
 use Rattle.writer.proofs.Puts.{put_then, put_as}
 use Rattle.writer.proofs.flat.put_placing.Goals as goal
 

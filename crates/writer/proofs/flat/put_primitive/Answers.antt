@@ -4,7 +4,7 @@ use Rattle.model.specs.Syntax.{prim, none}
 use Rattle.model.specs.Placements.{still}
 use Rattle.model.specs.Spelling.{opening_text}
 use Rattle.model.proofs.Spelled.{text_node}
-use Rattle.writer.specs.Elements.{exact}
+use Rattle.model.specs.Axes.{exact}
 use Rattle.writer.proofs.Puts.{put_then, put_as}
 use Rattle.writer.proofs.Signs.{widened}
 use Rattle.writer.proofs.flat.put_primitive.Goals as goal

@@ -1,10 +1,7 @@
 use Rattle.std.proofs.Common.{arith}
 use Rattle.program.specs.Elements.{nodes_of}
-use Rattle.program.proofs.Hopping.{hops_as, hop_none, hop_more}
+use Rattle.program.proofs.Hopping.{hop_none, hop_more}
 use Rattle.program.proofs.element.Term.hop.Goals as goal
-
-pub loop-init : goal.loop-init
-loop-init c = (omega arith, λ r h. hops_as (nodes_of c.args.layout.now) c.args.self r (omega arith) h)
 
 pub loop-preserved : goal.loop-preserved
 loop-preserved c = (

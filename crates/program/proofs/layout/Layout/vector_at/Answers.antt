@@ -1,6 +1,6 @@
 use Rattle.std.proofs.Common.{◌∙◌}
 use Rattle.program.specs.Elements.{nodes_of}
-use Rattle.program.proofs.Items.{is_vector, no_vector}
+use Rattle.program.proofs.Lists.{is_vector, no_vector}
 use Rattle.program.proofs.layout.Layout.vector_at.Goals as goal
 
 pub returns-in-Vector : goal.returns-in-Vector
