@@ -7,7 +7,7 @@ use Rattle.model.specs.declared.node.Node.TheVariants as v
 use Rattle.model.specs.Nodes.{parts}
 use Rattle.model.specs.Counts.{elements, unrolled}
 use Rattle.program.specs.declared.measure.Measure.{Measure}
-use Rattle.program.specs.declared.measuring.Parts.{Parts}
+use Rattle.program.specs.declared.parts.Parts.{Parts}
 use Rattle.program.specs.Measures.{cap, total, nothing, terms, over, over_parts, both, measures_of, Bounded, BoundedFrom, Gathered}
 use Rattle.program.proofs.Told.{as_told}
 

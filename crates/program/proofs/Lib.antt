@@ -1,6 +1,5 @@
 pub mod Indices
 pub mod Linears
-pub mod Sizes
 pub mod Unknowns
 pub mod Walks
 pub mod Layouts

@@ -1,7 +1,7 @@
 -- What is told at a node is told of the expression that begins there. Assumes nothing.
-use Rattle.std.proofs.Common.{◌≡◌, ℕ, zero, suc, ◌+◌, ◌-◌, ◌*◌, ◌<◌, ◌≤◌, min, true, false, cond, eqb, ◌⊎◌, List, [], ◌∷◌, ◌++◌, map, length, get_or, take, drop, sym, refl, ap, ◌∙◌, ap₂, inl, inr, append_assoc, suc-mul, zero-mul, arith, length-append}
+use Rattle.std.proofs.Common.{◌≡◌, ℕ, zero, suc, ◌+◌, ◌-◌, ◌*◌, ◌<◌, ◌≤◌, min, true, false, cond, eqb, ◌⊎◌, List, [], ◌∷◌, ◌++◌, map, length, get_or, drop, sym, refl, ap, ◌∙◌, ap₂, inl, inr, append_assoc, suc-mul, zero-mul, arith, length-append}
 use Rattle.std.proofs.lemmas.Bool.{cases_lt}
-use Rattle.std.proofs.lemmas.List.{get_or-drop, drop_at, drop-drop, drop_more, take-append-le, take_all}
+use Rattle.std.proofs.lemmas.List.{get_or-drop, drop_at, drop-drop, drop_more}
 use Rattle.model.specs.declared.node.Node.{Node}
 use Rattle.model.specs.declared.node.Node.TheVariants as v
 use Rattle.model.specs.Syntax.{Sort, Head, arity, Expr, Exprs, node, none, more, size, sizes}
@@ -137,9 +137,3 @@ pub tells : (nodes : List Node) → Tells nodes (measures_of nodes)
 tells nodes place s e rest stands =
     ap (λ k. get_or (measures_of nodes) k nothing) (omega arith) ∙ sym (get_or-drop place (measures_of nodes) 0 nothing)
     ∙ ap (λ l. get_or l 0 nothing) (measures_drop place nodes ∙ ap measures_of stands) ∙ told_here e rest
-
--- what a buffer of so many measures holds when it was filled
-pub refilled : (nodes : List Node) (ms items : List Measure) (n : ℕ) → ms ≡ measures_of nodes → n ≡ length nodes → take n (ms ++ drop (length ms) items) ≡ measures_of nodes
-refilled nodes ms items n e long =
-    let all : n ≡ length ms = long ∙ sym (length_measures nodes) ∙ ap length (sym e) in
-    take-append-le n ms (drop (length ms) items) (omega arith) ∙ take_all n ms (omega arith) ∙ e

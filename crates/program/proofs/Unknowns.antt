@@ -1,5 +1,5 @@
 -- Primitives that a family finds legal at every index, or illegal at some. Assumes nothing.
-use Rattle.std.proofs.Common.{◌≡◌, ℕ, suc, ◌<◌, ◌≤◌, min, true, false, cond, not, ◌||◌, eqb, ℤ, pos, negsuc, ◌+ℤ◌, nat_abs, Option, sym, refl, ap, ◌∙◌, subst, inl, inr, mul-zero, arith}
+use Rattle.std.proofs.Common.{◌≡◌, ℕ, suc, ◌<◌, min, Bool, true, false, cond, not, ◌||◌, eqb, ℤ, pos, negsuc, ◌+ℤ◌, nat_abs, Option, sym, refl, ap, ◌∙◌, subst, inl, inr, mul-zero, arith}
 use Rattle.std.proofs.lemmas.Bool.{true≢false, eqb-true, not-false, or_parts, or_right, cases_Bool}
 use Rattle.model.specs.declared.law.Context.{Context}
 use Rattle.model.specs.declared.node.Linear.{Linear}
@@ -10,19 +10,13 @@ use Rattle.model.specs.Placements.{linear, at, triple}
 use Rattle.model.specs.Shapes.{natural}
 use Rattle.model.specs.Unrolling.{primitive}
 use Rattle.model.specs.Legality.{some_axis, nonzero, beyond, unkind, wild, unknown}
-use Rattle.program.specs.Judging.{turns, turns_asked}
-use Rattle.program.proofs.Indices.{over_indices, some_is, none_is}
+use Rattle.program.specs.Judging.{some_below, turns, turns_asked, illegal}
+use Rattle.program.proofs.Indices.{over_indices, some_is, same_below, first_is_enough}
 
 -- a kind that is allowed is no negative number
 pub kind_is : (k : ℤ) → unkind k ≡ false → nat_abs k ≡ natural k
 kind_is (pos n) e = refl
 kind_is (negsuc n) e = absurd (true≢false e)
-
-pub unknown_at : (m : Meaning) (c : Context) (k : ℤ) (v : Linear) (i : ℕ) → i < turns c.around → m.legal (primitive k (at i v)) ≡ false → unknown m c k v ≡ true
-unknown_at m c k v i h e = over_indices (λ j. not (m.legal (primitive k (at j v)))) c.around ∙ some_is (λ j. not (m.legal (primitive k (at j v)))) (turns c.around) i h (ap not e)
-
-pub known_all : (m : Meaning) (c : Context) (k : ℤ) (v : Linear) → ((i : ℕ) → i < turns c.around → m.legal (primitive k (at i v)) ≡ true) → unknown m c k v ≡ false
-known_all m c k v all = over_indices (λ j. not (m.legal (primitive k (at j v)))) c.around ∙ none_is (λ j. not (m.legal (primitive k (at j v)))) (turns c.around) (λ i h. ap not (all i h))
 
 -- sizes that are too large at some index
 pub never_beyond : (c : Context) (v : Linear) (i : ℕ) → i < turns c.around → some_axis (beyond 1000000) (at i v) ≡ true → wild Translate c v ≡ false → ⊥
@@ -47,14 +41,25 @@ still_at v i e =
     same : (c s : ℤ) → s ≡ pos 0 → linear c s i ≡ linear c s 0
     same c s p = subst (λ t. linear c t i ≡ linear c t 0) (sym p) (ap (λ n. c +ℤ pos n) (mul-zero i))
 
-pub few_asked : (around : Option ℤ) (v : Linear) → turns_asked around v ≤ turns around
-few_asked around v =
-    elim (some_axis nonzero v.slope) as (λ b. cond b (turns around) (min (turns around) 1) ≤ turns around) [ true ↦ omega arith | false ↦ omega arith ]
-
--- what holds at the indices that are asked holds at all
-pub enough_asked : (P : Triple → Type 0) (around : Option ℤ) (v : Linear) → ((i : ℕ) → i < turns_asked around v → P (at i v)) → (i : ℕ) → i < turns around → P (at i v)
-enough_asked P around v asked i h =
+-- a test of a vector is asked at as many indices as it takes
+all_asked : (f : Triple → Bool) (around : Option ℤ) (v : Linear) → some_below (λ i. f (at i v)) (turns_asked around v) ≡ some_below (λ i. f (at i v)) (turns around)
+all_asked f around v =
+    let P : Bool → Type 0 = λ b. some_below (λ i. f (at i v)) (cond b (turns around) (min (turns around) 1)) ≡ some_below (λ i. f (at i v)) (turns around) in
     elim (cases_Bool (some_axis nonzero v.slope)) [
-      | inl e ↦ asked i (subst (λ b. i < cond b (turns around) (min (turns around) 1)) (sym e) h)
-      | inr e ↦ subst P (sym (still_at v i e)) (asked 0 (subst (λ b. 0 < cond b (turns around) (min (turns around) 1)) (sym e) (omega arith)))
+      | inl e ↦ subst P (sym e) refl
+      | inr e ↦ subst P (sym e) (first_is_enough (λ i. f (at i v)) (turns around) (λ i. ap f (still_at v i e)))
     ]
+
+-- a kind and sizes that are allowed are unknown if they are illegal at some index that is asked
+pub unknown_is : (m : Meaning) (c : Context) (k : ℤ) (v : Linear) → unkind k ≡ false → wild Translate c v ≡ false → some_below (λ i. illegal m (nat_abs k) (at i v)) (turns_asked c.around v) ≡ unknown m c k v
+unknown_is m c k v hk hw =
+    all_asked (illegal m (nat_abs k)) c.around v
+    ∙ same_below _ (λ i. not (m.legal (primitive k (at i v)))) (turns c.around) each
+    ∙ sym (over_indices (λ i. not (m.legal (primitive k (at i v)))) c.around)
+  where
+    each : (i : ℕ) → i < turns c.around → illegal m (nat_abs k) (at i v) ≡ not (m.legal (primitive k (at i v)))
+    each i h =
+        elim (cases_Bool (some_axis (beyond 1000000) (at i v))) [
+          | inl e ↦ absurd (never_beyond c v i h e hw)
+          | inr e ↦ ap (λ b. b || not (m.legal (record { kind = nat_abs k; sizes = at i v }))) e ∙ ap (λ n. not (m.legal (record { kind = n; sizes = at i v }))) (kind_is k hk)
+        ]

@@ -1,5 +1,5 @@
 -- A walk over the nodes of a program finds the first node that breaks a law. Assumes nothing.
-use Rattle.std.proofs.Common.{◌≡◌, ℕ, suc, ◌+◌, ◌-◌, ◌^◌, ◌<◌, ◌≤◌, min, Bool, true, false, cond, ◌⊎◌, List, ◌∷◌, ◌++◌, length, get_or, drop, Some, None, Ok, Err, Option, Result, sym, refl, ap, ◌∙◌, subst, inl, inr, append_assoc, add-one, arith}
+use Rattle.std.proofs.Common.{◌≡◌, ℕ, suc, ◌+◌, ◌-◌, ◌^◌, ◌≤◌, min, Bool, true, false, cond, ◌⊎◌, List, ◌∷◌, ◌++◌, length, get_or, drop, vec_items, vec_len, Some, None, Ok, Err, Option, Result, sym, refl, ap, ◌∙◌, subst, inl, inr, append_assoc, add-one, arith}
 use Rattle.std.specs.Option.{option_or}
 use Rattle.std.proofs.lemmas.List.{drop_all, drop_at, drop-drop}
 use Rattle.model.specs.declared.law.Law.{Law}
@@ -14,8 +14,10 @@ use Rattle.model.specs.Legality.{breaks, below, first, firsts}
 use Rattle.model.proofs.Extents.{arity_parts, split_cons, some≢none, asked}
 use Rattle.model.proofs.Readable.{length_flatten}
 use Rattle.model.proofs.Weights.{kept, neither}
+use Rattle.program.specs.declared.layout.Layout.{Layout}
 use Rattle.program.specs.declared.measure.Measure.{Measure}
 use Rattle.program.specs.Measures.{Tells, nothing}
+use Rattle.program.proofs.Layouts.{few_nodes, tells_layout}
 use Rattle.program.specs.Judging.{counts_told, Counted, walked, TermJudged, PartsJudged}
 
 -- ---- what is told of a node and its parts
@@ -52,59 +54,65 @@ walked_err : (o : Option ℕ) (n end : ℕ) → Err n ≡ walked o end → o ≡
 walked_err None n end e = let z : ◌≡◌ {A = ℕ} 0 1 = cc in absurd (omega arith)
 walked_err (Some k) n end e = let q : n ≡ k = cc in ap (λ (x : ℕ). Some x) (sym q)
 
-module _ (m : Meaning) (law : Law) (nodes : List Node) (ms : List Measure) where
+module _ (m : Meaning) (law : Law) (l : Layout) where
+  abbrev pub nodes : List Node
+  nodes = vec_items l.table.nodes
+
+  abbrev pub ms : List Measure
+  ms = vec_items l.measures
+
   -- what the test of a node answers
   abbrev pub Tested : ℕ → Context → Node → Bool → Type 0
   Tested place c n b = (cs : List ℕ) → Counted (counts_told ms place) n cs → (law ≡ Primitives → breaks m c cs n Numbers ≡ false) → b ≡ breaks m c cs n law
 
-  tested : (place : ℕ) (c : Context) (n : Node) (b : Bool) → Tested place c n b → drop place nodes ≡ n ∷ drop (place + 1) nodes → Tells nodes ms
+  tested : (place : ℕ) (c : Context) (n : Node) (b : Bool) → Tested place c n b → drop place nodes ≡ n ∷ drop (place + 1) nodes
       → {s : Sort} (h : Head s) (es : Exprs (arity h)) (rest : List Node) → drop place nodes ≡ flatten (node h es) ++ rest
       → (law ≡ Primitives → first m Numbers c (node h es) place ≡ None) → b ≡ breaks m c (counts es) (node_of h) law
   unfolding flatten first
-  tested place c n b test here tells h es rest stands numbers =
+  tested place c n b test here h es rest stands numbers =
       let q = split_cons (sym here ∙ stands) in
       let test' : Tested place c (node_of h) b = subst (λ x. Tested place c x b) q.0 test in
-      test' (counts es) (counted nodes ms tells place h es rest stands q.1) (λ p. (kept _ _ _ (numbers p)).0)
+      test' (counts es) (counted nodes ms (tells_layout l) place h es rest stands q.1) (λ p. (kept _ _ _ (numbers p)).0)
 
-  pub term_broken : (place : ℕ) (c : Context) (n : Node) → drop place nodes ≡ n ∷ drop (place + 1) nodes → Tested place c n true → TermJudged m law nodes ms place c (Err place)
+  pub term_broken : (place : ℕ) (c : Context) (n : Node) → drop place nodes ≡ n ∷ drop (place + 1) nodes → Tested place c n true → TermJudged m law l place c (Err place)
   unfolding first
-  term_broken place c n here test tells s (node h es) rest stands numbers =
-      let b = tested place c n true test here tells h es rest stands numbers in
+  term_broken place c n here test s (node h es) rest stands numbers =
+      let b = tested place c n true test here h es rest stands numbers in
       ap (λ x. walked (cond x (Some place) (firsts m law (below (node_of h) c) es (suc place))) (place + size (node h es))) b
 
-  pub term_parts : (place : ℕ) (c : Context) (n : Node) (k : ℕ) (r : Result ℕ ℕ) → length nodes < 2 ^ 63 → drop place nodes ≡ n ∷ drop (place + 1) nodes → Tested place c n false
-      → k ≡ min (parts n) (2 ^ 64 - 1) → PartsJudged m law nodes ms (place + 1) k (below n c) r → TermJudged m law nodes ms place c r
+  pub term_parts : (place : ℕ) (c : Context) (n : Node) (k : ℕ) (r : Result ℕ ℕ) → drop place nodes ≡ n ∷ drop (place + 1) nodes → Tested place c n false
+      → k ≡ min (parts n) (2 ^ 64 - 1) → PartsJudged m law l (place + 1) k (below n c) r → TermJudged m law l place c r
   unfolding flatten first size
-  term_parts place c n k r short here test is inner tells s (node h es) rest stands numbers =
+  term_parts place c n k r here test is inner s (node h es) rest stands numbers =
       let q = split_cons (sym here ∙ stands) in
-      let b = tested place c n false test here tells h es rest stands numbers in
-      let inner' : PartsJudged m law nodes ms (suc place) k (below (node_of h) c) r = subst (λ x. PartsJudged m law nodes ms x k (below (node_of h) c) r) (add-one place) (subst (λ x. PartsJudged m law nodes ms (place + 1) k (below x c) r) q.0 inner) in
+      let b = tested place c n false test here h es rest stands numbers in
+      let inner' : PartsJudged m law l (suc place) k (below (node_of h) c) r = subst (λ x. PartsJudged m law l x k (below (node_of h) c) r) (add-one place) (subst (λ x. PartsJudged m law l (place + 1) k (below x c) r) q.0 inner) in
       let inside = subst (λ x. drop x nodes ≡ flattens es ++ rest) (add-one place) q.1 in
-      let judged = inner' tells (arity h) es rest (asked nodes n (place + 1) k h es rest short is q.0 q.1) inside (λ p. (kept _ _ _ (numbers p)).1) in
+      let judged = inner' (arity h) es rest (asked nodes n (place + 1) k h es rest (omega (arith, few_nodes l)) is q.0 q.1) inside (λ p. (kept _ _ _ (numbers p)).1) in
       let end : suc place + sizes es ≡ place + suc (sizes es) = omega arith in
       judged ∙ ap (walked (firsts m law (below (node_of h) c) es (suc place))) end ∙ ap (λ x. walked (cond x (Some place) (firsts m law (below (node_of h) c) es (suc place))) (place + suc (sizes es))) b
 
-  pub parts_none : (place k : ℕ) (c : Context) → (k ≡ 0) ⊎ (length nodes ≤ place) → PartsJudged m law nodes ms place k c (Ok place)
+  pub parts_none : (place k : ℕ) (c : Context) → (k ≡ 0) ⊎ (vec_len l.table.nodes ≤ place) → PartsJudged m law l place k c (Ok place)
   unfolding flatten flattens firsts sizes
-  parts_none place k c why tells ss none rest is stands numbers = ap (λ (n : ℕ). Ok n) (omega arith)
-  parts_none place k c (inl z) tells ss (more (node h ds) es) rest is stands numbers = absurd (omega arith)
-  parts_none place k c (inr l) tells ss (more (node h ds) es) rest is stands numbers = absurd (some≢none (sym (drop_all place nodes l) ∙ stands))
+  parts_none place k c why ss none rest is stands numbers = ap (λ (n : ℕ). Ok n) (omega arith)
+  parts_none place k c (inl z) ss (more (node h ds) es) rest is stands numbers = absurd (omega arith)
+  parts_none place k c (inr past) ss (more (node h ds) es) rest is stands numbers = absurd (some≢none (sym (drop_all place nodes (omega (arith, l.table.nodes.ok.0))) ∙ stands))
 
-  pub parts_broken : (place k n : ℕ) (c : Context) → (k ≡ 0 → ⊥) → TermJudged m law nodes ms place c (Err n) → PartsJudged m law nodes ms place k c (Err n)
+  pub parts_broken : (place k n : ℕ) (c : Context) → (k ≡ 0 → ⊥) → TermJudged m law l place c (Err n) → PartsJudged m law l place k c (Err n)
   unfolding flattens firsts
-  parts_broken place k n c some term tells ss none rest is stands numbers = absurd (some (sym is))
-  parts_broken place k n c some term tells ss (more {s = s} e es) rest is stands numbers =
-      let a = term tells s e (flattens es ++ rest) (stands ∙ append_assoc (flatten e) (flattens es) rest) (λ p. (neither _ _ (numbers p)).0) in
+  parts_broken place k n c some term ss none rest is stands numbers = absurd (some (sym is))
+  parts_broken place k n c some term ss (more {s = s} e es) rest is stands numbers =
+      let a = term s e (flattens es ++ rest) (stands ∙ append_assoc (flatten e) (flattens es) rest) (λ p. (neither _ _ (numbers p)).0) in
       ap (λ o. walked (option_or o (firsts m law c es (place + size e))) (place + sizes (more e es))) (sym (walked_err _ n _ a))
 
-  pub parts_more : (place k next : ℕ) (c : Context) (r : Result ℕ ℕ) → (k ≡ 0 → ⊥) → TermJudged m law nodes ms place c (Ok next) → PartsJudged m law nodes ms next (k - 1) c r
-      → PartsJudged m law nodes ms place k c r
+  pub parts_more : (place k next : ℕ) (c : Context) (r : Result ℕ ℕ) → (k ≡ 0 → ⊥) → TermJudged m law l place c (Ok next) → PartsJudged m law l next (k - 1) c r
+      → PartsJudged m law l place k c r
   unfolding flattens firsts sizes
-  parts_more place k next c r some term parts tells ss none rest is stands numbers = absurd (some (sym is))
-  parts_more place k next c r some term parts tells ss (more {s = s} {ss = ss'} e es) rest is stands numbers =
+  parts_more place k next c r some term parts ss none rest is stands numbers = absurd (some (sym is))
+  parts_more place k next c r some term parts ss (more {s = s} {ss = ss'} e es) rest is stands numbers =
       let at-e = stands ∙ append_assoc (flatten e) (flattens es) rest in
-      let a = walked_ok _ next _ (term tells s e (flattens es ++ rest) at-e (λ p. (neither _ _ (numbers p)).0)) in
-      let parts' : PartsJudged m law nodes ms (place + size e) (k - 1) c r = subst (λ x. PartsJudged m law nodes ms x (k - 1) c r) a.1 parts in
-      let b = parts' tells ss' es rest (omega arith) (behind nodes place e (flattens es ++ rest) at-e) (λ p. (neither _ _ (numbers p)).1) in
+      let a = walked_ok _ next _ (term s e (flattens es ++ rest) at-e (λ p. (neither _ _ (numbers p)).0)) in
+      let parts' : PartsJudged m law l (place + size e) (k - 1) c r = subst (λ x. PartsJudged m law l x (k - 1) c r) a.1 parts in
+      let b = parts' ss' es rest (omega arith) (behind nodes place e (flattens es ++ rest) at-e) (λ p. (neither _ _ (numbers p)).1) in
       let end : place + size e + sizes es ≡ place + (size e + sizes es) = omega arith in
       b ∙ ap (walked (firsts m law c es (place + size e))) end ∙ ap (λ o. walked (option_or o (firsts m law c es (place + size e))) (place + (size e + sizes es))) (sym a.0)

@@ -1,21 +1,25 @@
 -- What is judged of a program's nodes, one law at a time. Assumes nothing.
-use Rattle.std.specs.Prelude.{◌≡◌, ℕ, ◌+◌, ◌≤◌, min, Bool, cond, ◌||◌, List, ◌++◌, length, drop, ℤ, Some, None, Ok, Err, Option, Result, slice_index, slice_index_or}
+use Rattle.std.specs.Prelude.{◌≡◌, ℕ, ◌+◌, ◌≤◌, min, Bool, cond, not, ◌||◌, List, ◌++◌, length, drop, ℤ, Some, None, Ok, Err, Option, Result, slice_index, slice_index_or, vec_items}
+use Rattle.std.specs.List.{list_any, range_with_len}
 use Rattle.model.specs.declared.law.Law.{Law}
 use Rattle.model.specs.declared.law.Law.TheVariants.{Size, Loops, Numbers, Primitives, Pairs, Lengths}
 use Rattle.model.specs.declared.law.Context.{Context}
 use Rattle.model.specs.declared.node.Node.{Node}
 use Rattle.model.specs.declared.node.Triple.{Triple}
 use Rattle.model.specs.declared.node.Linear.{Linear}
+use Rattle.model.specs.declared.wide.Numeral.{Numeral}
+use Rattle.model.specs.Axes.{axes}
 use Rattle.model.specs.Families.{Meaning}
 use Rattle.model.specs.Syntax.{Sort, Expr, Exprs, Solid, size, sizes}
 use Rattle.model.specs.Nodes.{parts, flatten, flattens}
 use Rattle.model.specs.Placements.{linear}
-use Rattle.model.specs.Shapes.{natural, from}
+use Rattle.model.specs.Shapes.{natural}
 use Rattle.model.specs.Counts.{elements}
-use Rattle.model.specs.Legality.{some_of, some_axis, nonzero, beyond, first, firsts, culprit}
+use Rattle.model.specs.Legality.{some_axis, nonzero, beyond, first, firsts, culprit}
 use Rattle.program.specs.declared.judge.Counts.{Counts}
+use Rattle.program.specs.declared.layout.Layout.{Layout}
 use Rattle.program.specs.declared.measure.Measure.{Measure}
-use Rattle.program.specs.Measures.{Tells, nothing}
+use Rattle.program.specs.Measures.{nothing}
 
 -- how many indices the loop around a node has: without one there is the index 0
 abbrev pub turns : Option ℤ → ℕ
@@ -28,23 +32,19 @@ turns_asked around v = cond (some_axis nonzero v.slope) (turns around) (min (tur
 
 -- f holds of some number below n
 abbrev pub some_below : (ℕ → Bool) → ℕ → Bool
-some_below f n = some_of f (from (λ i. i) 0 n)
+some_below f n = list_any f (range_with_len 0 n)
 
 -- f holds of a linear number at some index below n
-abbrev pub some_along : (ℤ → Bool) → ℤ → ℤ → ℕ → Bool
-some_along f c s n = some_below (λ i. f (linear c s i)) n
+abbrev pub some_along : (ℤ → Bool) → Numeral → ℕ → Bool
+some_along f a n = some_below (λ i. f (linear a.constant a.slope i)) n
 
 -- f holds of a vector's x, y or z at some index below n
 abbrev pub some_axis_along : (ℤ → Bool) → Linear → ℕ → Bool
-some_axis_along f v n =
-    some_along f v.constant.x v.slope.x n || (some_along f v.constant.y v.slope.y n || some_along f v.constant.z v.slope.z n)
+some_axis_along f v n = list_any (λ a. some_along f a n) (axes v)
 
--- a number of a size, and three of them, if no law forbids it
-abbrev pub size_within : ℤ → Option ℤ
-size_within z = cond (beyond 1000000 z) None (Some z)
-
-abbrev pub sizes_within : Triple → Option Triple
-sizes_within v = cond (some_axis (beyond 1000000) v) None (Some v)
+-- sizes that are too large for any kind, or that a family finds illegal
+abbrev pub illegal : Meaning → ℕ → Triple → Bool
+illegal m kind v = some_axis (beyond 1000000) v || not (m.legal (record { kind = kind; sizes = v }))
 
 -- the elements told of the term at a place, and of the two behind its node, as if it had two parts
 abbrev pub counts_told : List Measure → ℕ → Counts
@@ -64,15 +64,15 @@ walked None end = Ok end
 walked (Some n) end = Err n
 
 -- the expression at a place was judged; by the law on primitives, if it keeps the law on numbers
-abbrev pub TermJudged : Meaning → Law → List Node → List Measure → ℕ → Context → Result ℕ ℕ → Type 0
-TermJudged m law nodes ms place c r =
-    Tells nodes ms → (s : Sort) (e : Expr s) (rest : List Node) → drop place nodes ≡ flatten e ++ rest
+abbrev pub TermJudged : Meaning → Law → Layout → ℕ → Context → Result ℕ ℕ → Type 0
+TermJudged m law l place c r =
+    (s : Sort) (e : Expr s) (rest : List Node) → drop place (vec_items l.table.nodes) ≡ flatten e ++ rest
     → (law ≡ Primitives → first m Numbers c e place ≡ None) → r ≡ walked (first m law c e place) (place + size e)
 
 -- the same of so many expressions in a row
-abbrev pub PartsJudged : Meaning → Law → List Node → List Measure → ℕ → ℕ → Context → Result ℕ ℕ → Type 0
-PartsJudged m law nodes ms place n c r =
-    Tells nodes ms → (ss : List Sort) (es : Exprs ss) (rest : List Node) → length ss ≡ n → drop place nodes ≡ flattens es ++ rest
+abbrev pub PartsJudged : Meaning → Law → Layout → ℕ → ℕ → Context → Result ℕ ℕ → Type 0
+PartsJudged m law l place n c r =
+    (ss : List Sort) (es : Exprs ss) (rest : List Node) → length ss ≡ n → drop place (vec_items l.table.nodes) ≡ flattens es ++ rest
     → (law ≡ Primitives → firsts m Numbers c es place ≡ None) → r ≡ walked (firsts m law c es place) (place + sizes es)
 
 -- the law that has to be kept before a law is judged by the walk: the family is asked of allowed numbers, and the unrolling counted of equal lists

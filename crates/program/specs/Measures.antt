@@ -1,12 +1,12 @@
 -- What is told of the terms of a table. Assumes nothing.
 use Rattle.std.specs.Prelude.{◌≡◌, ℕ, zero, suc, ◌+◌, ◌-◌, ◌*◌, ◌^◌, ◌<◌, ◌≤◌, min, List, [], ◌∷◌, ◌++◌, map, length, drop, slice_index, slice_index_or}
-use Rattle.model.specs.Limits.{most_nodes, most_unrolled}
+use Rattle.model.specs.Limits.{most_unrolled}
 use Rattle.model.specs.declared.node.Node.{Node}
 use Rattle.model.specs.Syntax.{Sort, Expr, size}
 use Rattle.model.specs.Nodes.{flatten, parts}
 use Rattle.model.specs.Counts.{count, weight, elements, unrolled}
 use Rattle.program.specs.declared.measure.Measure.{Measure}
-use Rattle.program.specs.declared.measuring.Parts.{Parts}
+use Rattle.program.specs.declared.parts.Parts.{Parts}
 
 -- the largest number of unrolled nodes that is told; it stands for all larger ones too
 abbrev pub cap : ℕ
@@ -57,14 +57,6 @@ pub record Gathered (long from : ℕ) (ts : List Measure) (r : Parts) : Type 0 w
   pub second : r.second ≡ slice_index (map (λ t. t.elements) ts) 1
   pub unrolled : r.unrolled ≡ total (λ t. t.unrolled) ts
   pub within : from + r.nodes ≤ long
-  pub elements : r.first + r.second ≤ r.nodes * 2 ^ 64
-  pub light : r.unrolled ≤ r.nodes * cap
-
--- so few parts that no number of theirs is too large
-pub record Few (r : Parts) : Type 0 where
-  pub nodes : r.nodes ≤ most_nodes
-  pub elements : r.first + r.second ≤ r.nodes * 2 ^ 64
-  pub light : r.unrolled ≤ r.nodes * cap
 
 -- the elements of the first part and of the second
 abbrev pub both : Parts → List ℕ

@@ -15,7 +15,8 @@ use super::walk::Judge;
 use family::Family;
 use model::{Context, Fault, Law, MOST_LEVELS, MOST_NODES, MOST_UNROLLED, Placement};
 
-/// In the order in which they are tested.
+/// In the order in which they are tested. The law that is broken is told in the answer, so laws are
+/// data, and no table of functions.
 const LAWS: [Law; 6] = [
     Law::Size,
     Law::Loops,
@@ -51,8 +52,7 @@ impl Layout {
         let judge = Judge {
             law,
             family,
-            nodes: self.table.nodes.as_slice(),
-            measures: self.measures.as_slice(),
+            layout: self,
         };
         judge.term(0, ROOT).err()
     }
@@ -62,7 +62,8 @@ impl Layout {
         ensures { Ordered (held self.now.table) → KeptBefore (F.Family.meaning family.now) (held self.now.table) law → result ≡ culprit_in (F.Family.meaning family.now) (held self.now.table) law }
     {
         match law {
-            Law::Size => { if self.is_too_large() { Some(0) } else { None } }
+            Law::Size => self.is_too_large().then_some(0),
+            // No guard: behind one the proof does not learn which law it is.
             Law::Lengths => {
                 if self.unrolls_too_far() {
                     Some(0)

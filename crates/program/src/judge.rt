@@ -1,5 +1,5 @@
 // Which laws a node breaks, by where it stands and by how many elements it and its parts have.
-ghost use Rattle.std.specs.Prelude.{◌≡◌, ℕ, ◌^◌, ◌<◌, List, slice_index_or};
+ghost use Rattle.std.specs.Prelude.{◌≡◌, ℕ, ◌^◌, ◌<◌, List, vec_items, slice_index_or};
 ghost use Rattle.model.specs.Families.{Meaning};
 ghost use Rattle.model.specs.declared.law.Law.TheVariants.{Loops, Numbers, Pairs, Lengths};
 ghost use Rattle.model.specs.Legality.{breaks as is_broken, below as context_below};
@@ -7,6 +7,7 @@ ghost use Rattle.program.specs.Measures.{nothing};
 ghost use Rattle.program.specs.Judging.{Counted, counts_told};
 
 use super::bounds::{is_loose, is_uncounted, is_unkind, is_wild};
+use super::layout::Layout;
 use super::measure::Measure;
 use model::{Context, MOST_ELEMENTS, Node, Placement};
 
@@ -28,6 +29,7 @@ pub(crate) fn breaks_numbers(node: Node, context: Context) -> bool
             || is_wild(Placement::Translate, context, sizes),
         Node::Place(placement, v) => is_wild(placement, context, v),
         Node::Vector(v) => is_wild(context.placement, context, v),
+        // Two arms: one pattern for both gets no proof.
         Node::Repeat(count) => is_uncounted(count),
         Node::Tabulate(count) => is_uncounted(count),
         _ => false,
@@ -45,10 +47,7 @@ pub(crate) struct Counts {
 pub(crate) fn breaks_pairs(node: Node, counts: Counts) -> bool
     ensures { (m : Meaning) (c : Context) (cs : List ℕ) → Counted counts node cs → result ≡ is_broken m c cs node Pairs }
 {
-    match node {
-        Node::Map2(_) => counts.first != counts.second,
-        _ => false,
-    }
+    matches!(node, Node::Map2(_)) && counts.first != counts.second
 }
 
 pub(crate) fn breaks_lengths(node: Node, counts: Counts) -> bool
@@ -60,22 +59,15 @@ pub(crate) fn breaks_lengths(node: Node, counts: Counts) -> bool
 pub(crate) fn measure_at(measures: &[Measure], place: usize) -> Measure
     ensures { result ≡ slice_index_or measures.now place nothing }
 {
-    if place < measures.len() {
-        measures[place]
-    } else {
-        Measure {
-            nodes: 0,
-            elements: 0,
-            unrolled: 0,
-        }
-    }
+    measures.get(place).copied().unwrap_or(Measure::NOTHING)
 }
 
 /// What is told of the lists at a place and behind it, as of a node and its first two parts.
-pub(crate) fn counts_at(measures: &[Measure], place: usize) -> Counts
+pub(crate) fn counts_at(layout: &Layout, place: usize) -> Counts
     requires { place < 2 ^ 63 }
-    ensures { result ≡ counts_told measures.now place }
+    ensures { result ≡ counts_told (vec_items layout.now.measures) place }
 {
+    let measures = layout.measures.as_slice();
     let first = measure_at(measures, place + 1);
     let second = measure_at(measures, first.nodes.saturating_add(place + 1));
     Counts {
@@ -92,11 +84,11 @@ pub(crate) fn below(node: Node, context: Context) -> Context
     match node {
         Node::Tabulate(count) => Context {
             around: Some(count),
-            placement: context.placement,
+            ..context
         },
         Node::Map2(placement) => Context {
-            around: context.around,
             placement,
+            ..context
         },
         _ => context,
     }

@@ -13,7 +13,9 @@ mod measure;
 mod measuring;
 mod narrow;
 mod part;
+mod parts;
 mod primitives;
+mod report;
 mod unloaded;
 mod walk;
 

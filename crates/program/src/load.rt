@@ -1,47 +1,16 @@
 // The part that a text says.
 ghost use Rattle.std.specs.Prelude.{◌≡◌, IfOk};
 ghost use Rattle.model.specs.Syntax.{Empty, size};
-ghost use Rattle.model.specs.Legality.{law_number};
 ghost use Rattle.model.specs.Tables.{held};
 ghost use Rattle.model.specs.Unrolling.{unroll};
-ghost use Rattle.program.specs.Loading.{Loaded, report_of};
+ghost use Rattle.program.specs.Loading.{Loaded};
 
 use super::layout::Layout;
 use super::part::Part;
 use super::unloaded::Unloaded;
 use family::Family;
-use model::{Law, Layer, Report};
 use std::alloc::{AllocError, Global};
 use text::first_token;
-
-fn law_number(law: Law) -> u8
-    ensures { result ≡ law_number law }
-{
-    match law {
-        Law::Size => 3,
-        Law::Loops => 4,
-        Law::Numbers => 5,
-        Law::Primitives => 6,
-        Law::Pairs => 7,
-        Law::Lengths => 8,
-    }
-}
-
-impl Unloaded {
-    /// Its number, its layer and the part of the text at fault.
-    pub fn report(self) -> Report
-        ensures { result ≡ report_of self }
-    {
-        match self {
-            Unloaded::Unread(refusal) => Report::from(refusal),
-            Unloaded::Illegal(law, span) => Report {
-                number: law_number(law),
-                layer: Layer::Legality,
-                span,
-            },
-        }
-    }
-}
 
 impl Part {
     /// The part of `Empty`.
@@ -65,14 +34,12 @@ impl Part {
     pub fn load<F: Family>(&mut self, text: &[u8], family: &F) -> Result<(), Unloaded>
         ensures { Loaded (F.Family.meaning family.now) text.now self.old result self.new }
     {
-        if let Err(refusal) = self.candidate.read(text) {
-            return Err(Unloaded::Unread(refusal));
-        }
+        self.candidate.read(text)?;
         if let Some(fault) = self.candidate.fault(family) {
-            return match first_token(text, &self.candidate.table, fault.node) {
-                Some(span) => Err(Unloaded::Illegal(fault.law, span)),
-                None => unreachable(),
+            let Some(span) = first_token(text, &self.candidate.table, fault.node) else {
+                unreachable()
             };
+            return Err(Unloaded::Illegal(fault.law, span));
         }
         std::mem::swap(&mut self.layout, &mut self.candidate);
         Ok(())

@@ -10,3 +10,12 @@ pub struct Measure {
     /// have stands for all larger numbers.
     pub unrolled: u128,
 }
+
+impl Measure {
+    /// Nothing is told where no term begins.
+    pub(crate) const NOTHING: Measure = Measure {
+        nodes: 0,
+        elements: 0,
+        unrolled: 0,
+    };
+}

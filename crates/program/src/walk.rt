@@ -1,5 +1,5 @@
 // The first node that breaks a law, in reading order.
-ghost use Rattle.std.specs.Prelude.{◌≡◌, ℕ, ◌<◌, ◌≤◌, false, List, length, IfOk};
+ghost use Rattle.std.specs.Prelude.{◌≡◌, ℕ, ◌<◌, ◌≤◌, false, List, vec_len, IfOk};
 ghost use Rattle.model.specs.declared.law.Law.TheVariants.{Numbers, Primitives};
 ghost use Rattle.model.specs.Legality.{breaks as is_broken};
 ghost use Rattle.program.specs.Judging.{Counted, TermJudged, PartsJudged};
@@ -7,18 +7,17 @@ ghost use Rattle.program.specs.Judging.{Counted, TermJudged, PartsJudged};
 use super::judge::{
     Counts, below, breaks_lengths, breaks_loops, breaks_numbers, breaks_pairs, counts_at,
 };
-use super::measure::Measure;
+use super::layout::Layout;
 use super::primitives::breaks_primitives;
 use family::Family;
 use model::{Context, Law, Node};
 
-/// What is judged: the nodes and what is told of them, under one law, as a family has it.
+/// A layout that is judged under one law, as a family has it.
 #[derive(Drop)]
 pub(crate) struct Judge<'a, F> {
     pub(crate) law: Law,
     pub(crate) family: &'a F,
-    pub(crate) nodes: &'a [Node],
-    pub(crate) measures: &'a [Measure],
+    pub(crate) layout: &'a Layout,
 }
 
 impl<'a, F: Family> Judge<'a, F> {
@@ -39,12 +38,12 @@ impl<'a, F: Family> Judge<'a, F> {
     /// Where the term that begins at a place ends, or its first node that breaks the law.
     #[cycle(judging)]
     pub(crate) fn term(&self, place: usize, context: Context) -> Result<usize, usize>
-        requires { place < length self.now.nodes.now }
-        ensures within { IfOk result (λ end. (place < end) × (end ≤ length self.now.nodes.now)) }
-        ensures judged { TermJudged (F.Family.meaning self.now.family.now) self.now.law self.now.nodes.now self.now.measures.now place context result }
+        requires { place < vec_len self.now.layout.now.table.nodes }
+        ensures within { IfOk result (λ end. (place < end) × (end ≤ vec_len self.now.layout.now.table.nodes)) }
+        ensures judged { TermJudged (F.Family.meaning self.now.family.now) self.now.law self.now.layout.now place context result }
     {
-        let node = self.nodes[place];
-        if self.breaks(node, context, counts_at(self.measures, place)) {
+        let node = self.layout.table.nodes[place];
+        if self.breaks(node, context, counts_at(self.layout, place)) {
             return Err(place);
         }
         self.parts(place + 1, node.parts(), below(node, context))
@@ -53,11 +52,11 @@ impl<'a, F: Family> Judge<'a, F> {
     // The same of so many terms in a row.
     #[cycle(judging)]
     fn parts(&self, place: usize, count: usize, context: Context) -> Result<usize, usize>
-        requires { place ≤ length self.now.nodes.now }
-        ensures within { IfOk result (λ end. (place ≤ end) × (end ≤ length self.now.nodes.now)) }
-        ensures judged { PartsJudged (F.Family.meaning self.now.family.now) self.now.law self.now.nodes.now self.now.measures.now place count context result }
+        requires { place ≤ vec_len self.now.layout.now.table.nodes }
+        ensures within { IfOk result (λ end. (place ≤ end) × (end ≤ vec_len self.now.layout.now.table.nodes)) }
+        ensures judged { PartsJudged (F.Family.meaning self.now.family.now) self.now.law self.now.layout.now place count context result }
     {
-        if count == 0 || place >= self.nodes.len() {
+        if count == 0 || place >= self.layout.table.nodes.len() {
             return Ok(place);
         }
         let next = self.term(place, context)?;

@@ -1,4 +1,4 @@
-use Rattle.std.proofs.Common.{◌≡◌, ℕ, ◌+◌, ◌-◌, ◌^◌, ◌<◌, length, get_or, drop, sym, refl, ap, ◌∙◌, subst, arith, rules}
+use Rattle.std.proofs.Common.{ℕ, ◌+◌, ◌-◌, ◌^◌, ◌<◌, length, get_or, sym, refl, ap, ◌∙◌, subst, arith, rules}
 use Rattle.std.proofs.lemmas.List.{drop_all}
 use Rattle.model.specs.declared.node.Node.TheVariants.{Empty}
 use Rattle.program.specs.Measures.{measures_of}
@@ -16,16 +16,6 @@ loop-place-init c =
       bounded = λ j above below. absurd (omega arith);
     }
 
-pub gather-parts-requires : goal.gather-parts-requires
-gather-parts-requires c =
-    let even = c.loop-place.invariant.even in
-    record { place = omega arith; bounded = λ j above below. c.loop-place.invariant.bounded j (omega arith) below }
-
-pub told_of-requires : goal.told_of-requires
-told_of-requires c =
-    let g = c.gather-parts.ensures in
-    record { nodes = omega (arith, g.within, c.loop-place.invariant.even, c.requires.few); elements = g.elements; light = g.light }
-
 pub loop-place-preserved : goal.loop-place-preserved
 loop-place-preserved c =
     let ns = c.args.nodes.now in
@@ -34,10 +24,5 @@ loop-place-preserved c =
     let P : ℕ → Type 0 = λ n. Filled ns ms n in
     let old : Filled ns ms (place + 1) = subst P (omega arith) c.loop-place.invariant in
     let short : length ms < 2 ^ 63 = search rules in
-    filled_more ns ms place c.parts.result (get_or ns place Empty) Empty c.gather-parts.result c.told_of.result old (omega arith) short refl c.parts.ensures
-    c.gather-parts.ensures c.told_of.ensures.value c.told_of.ensures.bound
-
-pub returns : goal.returns
-returns c =
-    let done : c.loop-place.place ≡ 0 = omega arith in
-    subst (λ n. drop n c.loop-place.measures ≡ measures_of (drop n c.args.nodes.now)) done c.loop-place.invariant.told
+    filled_more ns ms place c.parts.result (get_or ns place Empty) Empty c.gather-parts.result c.told.result old (omega arith) short refl c.parts.ensures
+    c.gather-parts.ensures c.told.ensures.value c.told.ensures.bound

@@ -1,55 +1,44 @@
-use Rattle.std.proofs.Common.{◌≡◌, ◌+◌, ◌^◌, ◌<◌, ◌≤◌, true, false, ◌⊎◌, length, get_or, Err, sym, subst, inl, inr, arith, rules}
-use Rattle.std.proofs.lemmas.List.{drop_more}
-use Rattle.model.specs.declared.node.Node.TheVariants.{Empty}
+use Rattle.std.proofs.Common.{◌≡◌, ◌+◌, ◌≤◌, true, false, ◌⊎◌, vec_len, Err, sym, subst, inl, inr, arith, rules}
 use Rattle.program.specs.Judging.{Counted, PartsJudged}
+use Rattle.program.proofs.Layouts.{stands_at}
 use Rattle.program.proofs.Walks.{Tested, term_broken, term_parts, parts_none, parts_broken, parts_more}
 use Rattle.program.proofs.walk.Judge.+judging.Goals as goal
-use Rattle.program.proofs.walk.Judge.+judging.Goals.{parts-then-count-eq0-via-then-count-eq0, parts-then-count-eq0-via-else-count-eq0+then-place-self}
+use Rattle.program.proofs.walk.Judge.+judging.Goals.{parts-then-count-eq0-via-then-count-eq0, parts-then-count-eq0-via-else-count-eq0+then-place-len}
 
-pub parts-returns-then-count-eq0 : goal.parts-returns-then-count-eq0
-parts-returns-then-count-eq0 g t c =
+pub parts-returns-then-count-eq0-clause-judged : goal.parts-returns-then-count-eq0-clause-judged
+parts-returns-then-count-eq0-clause-judged g t c =
     let j = c.args.self.now in
-    let why : (c.args.count ≡ 0) ⊎ (length j.nodes.now ≤ c.args.place) =
-    elim c.then-count-eq0.branch [ parts-then-count-eq0-via-then-count-eq0 w ↦ inl w.if-count-eq0.true | parts-then-count-eq0-via-else-count-eq0+then-place-self w ↦ inr w.if-place-self.true ] in
-    record { within = (omega arith, c.requires); judged = parts_none (g.F.Family.meaning j.family.now) j.law j.nodes.now j.measures.now c.args.place c.args.count c.args.context why }
+    let why : (c.args.count ≡ 0) ⊎ (vec_len j.layout.now.table.nodes ≤ c.args.place) =
+    elim c.then-count-eq0.branch [
+      | parts-then-count-eq0-via-then-count-eq0 w ↦ inl w.if-count-eq0.true
+      | parts-then-count-eq0-via-else-count-eq0+then-place-len w ↦ inr (omega (arith, w.if-place-len.true, w.len.ensures))
+    ] in
+    parts_none (g.F.Family.meaning j.family.now) j.law j.layout.now c.args.place c.args.count c.args.context why
 
-pub parts-returns-in_err-next : goal.parts-returns-in_err-next
-parts-returns-in_err-next g t c =
+pub parts-returns-in_err-next-clause-judged : goal.parts-returns-in_err-next-clause-judged
+parts-returns-in_err-next-clause-judged g t c =
     let j = c.args.self.now in
-    let m = g.F.Family.meaning j.family.now in
     let n = c.in_err-next.field-0.0 in
     let broken : c.from_residual.result ≡ Err n = search rules in
-    let p = parts_broken m j.law j.nodes.now j.measures.now c.args.place c.args.count n c.args.context (λ z. omega arith) c.in_err-next.ensures.judged in
-    record { within = search rules; judged = subst (PartsJudged m j.law j.nodes.now j.measures.now c.args.place c.args.count c.args.context) (sym broken) p }
+    let p = parts_broken (g.F.Family.meaning j.family.now) j.law j.layout.now c.args.place c.args.count n c.args.context (λ z. omega arith) c.in_err-next.ensures.judged in
+    subst (PartsJudged (g.F.Family.meaning j.family.now) j.law j.layout.now c.args.place c.args.count c.args.context) (sym broken) p
 
-pub parts-returns : goal.parts-returns
-parts-returns g t c =
+pub parts-returns-clause-judged : goal.parts-returns-clause-judged
+parts-returns-clause-judged g t c =
     let j = c.args.self.now in
-    let m = g.F.Family.meaning j.family.now in
-    record {
-      within = search rules;
-      judged = parts_more m j.law j.nodes.now j.measures.now c.args.place c.args.count c.in_ok-next.next c.args.context c.parts.result (λ z. omega arith) c.in_ok-next.ensures.judged c.parts.ensures.judged;
-    }
+    parts_more (g.F.Family.meaning j.family.now) j.law j.layout.now c.args.place c.args.count c.in_ok-next.next c.args.context c.parts.result (λ z. omega arith) c.in_ok-next.ensures.judged c.parts.ensures.judged
 
-pub term-returns-then-breaks : goal.term-returns-then-breaks
-term-returns-then-breaks g t c =
+pub term-returns-then-breaks-clause-judged : goal.term-returns-then-breaks-clause-judged
+term-returns-then-breaks-clause-judged g t c =
     let j = c.args.self.now in
-    let m = g.F.Family.meaning j.family.now in
-    let n = get_or j.nodes.now c.args.place Empty in
-    let here = drop_more j.nodes.now c.args.place Empty c.requires in
-    let test : Tested m j.law j.nodes.now j.measures.now c.args.place c.args.context n true = λ cs k p. c.if-breaks.ensures cs (subst (λ x. Counted x n cs) (sym c.counts_at.ensures) k) p in
-    record { within = tt; judged = term_broken m j.law j.nodes.now j.measures.now c.args.place c.args.context n here test }
+    let n = c.index-node.result.now in
+    let test : Tested (g.F.Family.meaning j.family.now) j.law j.layout.now c.args.place c.args.context n true = λ cs k p. c.if-breaks.ensures cs (subst (λ x. Counted x n cs) (sym c.counts_at.ensures) k) p in
+    term_broken (g.F.Family.meaning j.family.now) j.law j.layout.now c.args.place c.args.context n (stands_at j.layout.now c.args.place n c.requires c.index-node.ensures) test
 
-pub term-returns : goal.term-returns
-term-returns g t c =
+pub term-returns-clause-judged : goal.term-returns-clause-judged
+term-returns-clause-judged g t c =
     let j = c.args.self.now in
-    let m = g.F.Family.meaning j.family.now in
-    let n = get_or j.nodes.now c.args.place Empty in
-    let here = drop_more j.nodes.now c.args.place Empty c.requires in
-    let short : length j.nodes.now < 2 ^ 63 = search rules in
-    let test : Tested m j.law j.nodes.now j.measures.now c.args.place c.args.context n false = λ cs k p. c.if-breaks.ensures cs (subst (λ x. Counted x n cs) (sym c.counts_at.ensures) k) p in
-    let inner = subst (λ x. PartsJudged m j.law j.nodes.now j.measures.now (c.args.place + 1) c.parts.result x c.parts-2.result) c.below.ensures c.parts-2.ensures.judged in
-    record {
-      within = search rules;
-      judged = term_parts m j.law j.nodes.now j.measures.now c.args.place c.args.context n c.parts.result c.parts-2.result short here test c.parts.ensures inner;
-    }
+    let n = c.index-node.result.now in
+    let test : Tested (g.F.Family.meaning j.family.now) j.law j.layout.now c.args.place c.args.context n false = λ cs k p. c.if-breaks.ensures cs (subst (λ x. Counted x n cs) (sym c.counts_at.ensures) k) p in
+    let inner = subst (λ x. PartsJudged (g.F.Family.meaning j.family.now) j.law j.layout.now (c.args.place + 1) c.parts.result x c.parts-2.result) c.below.ensures c.parts-2.ensures.judged in
+    term_parts (g.F.Family.meaning j.family.now) j.law j.layout.now c.args.place c.args.context n c.parts.result c.parts-2.result (stands_at j.layout.now c.args.place n c.requires c.index-node.ensures) test c.parts.ensures inner
