@@ -14,7 +14,6 @@ use Rattle.model.specs.Syntax.{solid, many}
 use Rattle.model.specs.Counts.{count}
 use Rattle.model.specs.Unrolling.{apply, belonging}
 use Rattle.model.proofs.Counted.{length_run}
-use Rattle.program.specs.Elements.{Holds}
 use Rattle.probe.specs.Terms.{term}
 use Rattle.probe.specs.Walking.{both, Walk, walking, any, reserve, total, Sound, AllSound, walk, walks, said, Goes, Leads}
 use Rattle.probe.proofs.Terms.{inside}
@@ -61,8 +60,3 @@ module _ (nodes : List Node) (fs : List Frame) where
         let le : (walk nodes m y.term).turns ≤ w.turns = led.turns in
         seen f (Rest x k a) (Leave b) (Enter y) (fs ++ Rest x (k + 1) r ∷ []) e
         (λ t. goes_swap nodes m fs (Rest x k a) (Rest x (k + 1) r) (Leave b) (Enter y) same (omega (arith, c, le, led.behind)) t o (omega (arith, o.0, led.behind), led.stands)) s
-
-    -- the next element is there
-    pub next_holds : (f : Frame) (x : Task) (k : ℕ) (a : Bool) → f ≡ Rest x k a → AllSound nodes 0 (fs ++ f ∷ []) → k < count (term nodes (many solid) x.term.place)
-        → Holds (walking m) nodes x.term k solid (get_or (walks nodes m x.term) k (walking m).empty)
-    next_holds f x k a e s h = record { list = term nodes (many solid) x.term.place; begins = (last_of f (Rest x k a) e s).1; within = h; is = refl }

@@ -1,4 +1,4 @@
 pub mod Naturals
-pub mod Splits
-pub mod Fives
+pub mod Chains
+pub mod Words
 pub mod Turns

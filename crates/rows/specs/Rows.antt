@@ -1,8 +1,7 @@
 -- What the words of a line say: a row, nothing, or neither. Assumes nothing.
-use Rattle.std.specs.Prelude.{ℕ, cond, List, [], length, ℤ, Some, None, Option, ◌==◌, slice_index_or}
+use Rattle.std.specs.Prelude.{ℕ, cond, List, [], length, ℤ, Some, None, Option, Ok, Err, Result, ◌==◌, slice_index_or}
 use Rattle.family.specs.declared.catalogue.Row.{Row}
-use Rattle.rows.specs.declared.line.Line as L
-use Rattle.rows.specs.declared.line.Line.TheVariants as v
+use Rattle.rows.specs.declared.line.Neither.{Neither}
 use Rattle.rows.specs.Numbers.{profile_of, whole_of}
 
 -- a row of numbers, if there is each of them
@@ -22,10 +21,14 @@ five_of ws = row_from (profile_of (slice_index_or ws 0 [])) (whole_of (slice_ind
 abbrev pub row_of : List (List ℕ) → Option Row
 row_of ws = cond (length ws == 5) (five_of ws) None
 
-abbrev pub a_row : Option Row → L.Line
-a_row None = v.Unreadable
-a_row (Some row) = v.Row row
+-- a line that says neither a row nor nothing
+abbrev pub neither : Result (Option Row) Neither
+neither = Err (record {})
+
+abbrev pub a_row : Option Row → Result (Option Row) Neither
+a_row None = neither
+a_row (Some row) = Ok (Some row)
 
 -- no words say nothing
-unfoldable pub says : List (List ℕ) → L.Line
-says ws = cond (length ws == 0) v.Blank (a_row (row_of ws))
+unfoldable pub says : List (List ℕ) → Result (Option Row) Neither
+says ws = cond (length ws == 0) (Ok None) (a_row (row_of ws))

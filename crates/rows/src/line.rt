@@ -1,115 +1,101 @@
 // What a line says.
-ghost use Rattle.std.specs.Prelude.{◌≡◌, [], length, drop, slice_index_or};
-ghost use Rattle.rows.specs.Pieces.{without_return, content, words};
-ghost use Rattle.rows.specs.Rows.{row_from, a_row, says};
+ghost use Rattle.std.specs.Prelude.{◌≡◌, ◌≤◌, not, ◌==◌, length, MatchOption};
+ghost use Rattle.std.specs.List.{list_all, prefix_len};
+ghost use Rattle.rows.specs.Words.{listed};
+ghost use Rattle.rows.specs.Pieces.{without_return, before_comment, is_blank, words};
+ghost use Rattle.rows.specs.Rows.{five_of};
 ghost use Rattle.rows.specs.Reading.{said};
 
-use super::byte::{Class, first_piece, run_length};
 use super::number::{profile_of, whole_of};
 use family::Row;
 
+/// A line that says neither a row nor nothing.
 #[derive(Clone, Copy)]
-pub(crate) enum Line {
-    /// Nothing but blanks and a comment.
-    Blank,
-    Row(Row),
-    Unreadable,
+pub(crate) struct Neither;
+
+// The words of a row.
+#[derive(Clone, Copy)]
+struct Five<'a> {
+    profile: &'a [u8],
+    p: &'a [u8],
+    q: &'a [u8],
+    r: &'a [u8],
+    d: &'a [u8],
 }
 
-// A word, empty where there is none, and what stands after it.
-#[derive(Drop)]
-struct NextWord<'a> {
-    word: &'a [u8],
-    rest: &'a [u8],
+fn is_blank(b: u8) -> bool
+    ensures { result ≡ is_blank b }
+{
+    b == b' ' || b == b'\t'
 }
 
 // A carriage return at the end is no part of the line.
 fn without_return(line: &[u8]) -> &[u8]
     ensures { result.now ≡ without_return line.now }
 {
-    let n = line.len();
-    if 0 < n && line[n - 1] == b'\r' {
-        &line[..n - 1]
-    } else {
-        line
+    line.strip_suffix(b"\r").unwrap_or(line)
+}
+
+// How many bytes stand before the comment.
+fn content_len(line: &[u8]) -> usize
+    ensures value { result ≡ prefix_len (λ b. not (b == 35)) line.now }
+    ensures within { result ≤ length line.now }
+{
+    line.iter().take_while(|b| **b != b'#').count()
+}
+
+fn before_comment(line: &[u8]) -> &[u8]
+    ensures { result.now ≡ before_comment line.now }
+{
+    &line[..content_len(line)]
+}
+
+fn is_of_blanks(text: &[u8]) -> bool
+    ensures { result ≡ list_all is_blank text.now }
+{
+    text.iter().all(|b| is_blank(*b))
+}
+
+// The words of a text, if they are five.
+fn five_words(text: &[u8]) -> Option<Five<'_>>
+    ensures { MatchOption result (length (words text.now) ≡ 5 → ⊥) (λ five. words text.now ≡ listed five) }
+{
+    let mut words = text.split(|b| is_blank(*b)).filter(|word| !word.is_empty());
+    let five = Five {
+        profile: words.next()?,
+        p: words.next()?,
+        q: words.next()?,
+        r: words.next()?,
+        d: words.next()?,
+    };
+    match words.next() {
+        Some(_) => None,
+        None => Some(five),
     }
 }
 
-// What stands before the comment.
-fn content(line: &[u8]) -> &[u8]
-    ensures { result.now ≡ content line.now }
-{
-    let line = without_return(line);
-    let end = run_length(line, Class::BeforeComment);
-    &line[..end]
-}
-
-fn next_word<'a>(text: &'a [u8]) -> NextWord<'a>
-    ensures first { result.word.now ≡ slice_index_or (words text.now) 0 [] }
-    ensures more { words result.rest.now ≡ drop 1 (words text.now) }
-    ensures none { length result.word.now ≡ 0 → words text.now ≡ [] }
-{
-    let start = run_length(text, Class::Blank);
-    let found = first_piece(&text[start..], Class::InWord);
-    NextWord {
-        word: found.front,
-        rest: found.rest,
-    }
-}
-
-fn row_from(
-    profile: Option<u16>,
-    p: Option<i64>,
-    q: Option<i64>,
-    r: Option<i64>,
-    d: Option<i64>,
-) -> Option<Row>
-    ensures { result ≡ row_from profile p q r d }
+#[tactic(auto, unfolding(crate::specs::Rows::five_of))]
+fn row_from(words: Five) -> Option<Row>
+    ensures { result ≡ five_of (listed words.entry) }
 {
     Some(Row {
-        profile: profile?,
-        p: p?,
-        q: q?,
-        r: r?,
-        d: d?,
+        profile: profile_of(words.profile)?,
+        p: whole_of(words.p)?,
+        q: whole_of(words.q)?,
+        r: whole_of(words.r)?,
+        d: whole_of(words.d)?,
     })
 }
 
-fn line_from(row: Option<Row>) -> Line
-    ensures { result ≡ a_row row }
-{
-    match row {
-        Some(row) => Line::Row(row),
-        None => Line::Unreadable,
-    }
-}
-
-// What the words of a text say: five are a row, and none is a blank line.
-fn words_of(text: &[u8]) -> Line
-    ensures { result ≡ says (words text.now) }
-{
-    let profile = next_word(text);
-    if profile.word.is_empty() {
-        return Line::Blank;
-    }
-    let p = next_word(profile.rest);
-    let q = next_word(p.rest);
-    let r = next_word(q.rest);
-    let d = next_word(r.rest);
-    if !next_word(d.rest).word.is_empty() {
-        return Line::Unreadable;
-    }
-    line_from(row_from(
-        profile_of(profile.word),
-        whole_of(p.word),
-        whole_of(q.word),
-        whole_of(r.word),
-        whole_of(d.word),
-    ))
-}
-
-pub(crate) fn line_of(line: &[u8]) -> Line
+/// Its row, if it says more than blanks and a comment.
+pub(crate) fn line_of(line: &[u8]) -> Result<Option<Row>, Neither>
     ensures { result ≡ said line.now }
 {
-    words_of(content(line))
+    let text = before_comment(without_return(line));
+    if is_of_blanks(text) {
+        return Ok(None);
+    }
+    let words = five_words(text).ok_or(Neither)?;
+    let row = row_from(words).ok_or(Neither)?;
+    Ok(Some(row))
 }

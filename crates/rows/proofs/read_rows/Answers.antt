@@ -1,43 +1,50 @@
-use Rattle.std.proofs.Common.{[], ◌∷◌, ◌++◌, is_ok, vec_items, sym, ap, ◌∙◌, append-nil, arith}
-use Rattle.std.proofs.lemmas.Bool.{cond-true, eqb-true}
-use Rattle.rows.specs.Reading.{row_list}
-use Rattle.rows.proofs.Turns.{First, shorter, blank_readable, row_readable, turn, reached, done}
+use Rattle.std.proofs.Common.{◌≡◌, ◌+◌, ◌++◌, length, vec_items, Some, None, Ok, Err, sym, ap, ◌∙◌, append-nil, length-append, arith, rules}
+use Rattle.std.specs.Iterator.Adapters.{enumerate_source, enumerate_count}
+use Rattle.std.proofs.lemmas.Iterator.Consumers.{YieldsList-turn, YieldsList-end}
+use Rattle.std.proofs.lemmas.List.FromFn.{length-enumerate_from}
+use Rattle.rows.specs.declared.Unreadable.TheVariants as u
+use Rattle.rows.specs.Rows.{neither}
+use Rattle.rows.specs.Reading.{row_list, said}
+use Rattle.rows.proofs.Chains.{parts_in}
+use Rattle.rows.proofs.Turns.{turn, reached, done, met, says_row, says_nothing}
 use Rattle.rows.proofs.read_rows.Goals as goal
-use Rattle.rows.proofs.read_rows.Goals.{After-line_of, in-Blank, in-Row+else-is_err}
 
--- what a turn of the loop finds
-found : (c : goal.After-line_of) → First c.loop-rest.rest.now c.first_piece-line.result.front.now c.first_piece-line.result.rest.now
-found c = record {
-  some = sym c.loop-rest-test.ensures;
-  front = c.first_piece-line.ensures.front;
-  back = c.first_piece-line.ensures.rest;
-}
+pub returns-in_err-said : goal.returns-in_err-said
+returns-in_err-said c =
+    let e = parts_in c.args.bytes.now c.loop-i.i-iterator c.next.new.self c.next.result c.next.ensures.steps c.split.ensures.rest c.split.ensures.done c.split.ensures.closure (ap enumerate_source c.into_iter-i-iterator.ensures.into_iter_gives ∙ c.enumerate-i-items.ensures.source) (ap enumerate_count c.into_iter-i-iterator.ensures.into_iter_gives ∙ c.enumerate-i-items.ensures.count) (λ x b q k. search rules) in
+    let here = met _ _ _ _ (YieldsList-turn e c.loop-i.yielded c.loop-i.i-iterator c.loop-i.yielded_by c.next.result c.next.new.self (c.in-Some.i, c.in-Some.line) c.in-Some.is c.next.ensures.steps) in
+    let not : c.line_of.result ≡ neither = search rules in
+    let why : c.from_residual.result ≡ Err (u.Row (c.in-Some.i + 1)) = search rules in
+    rw why (length c.loop-i.yielded, omega (arith, here.number), reached _ _ _ _ here.within c.loop-i.invariant.2 (ap said (sym here.part) ∙ sym c.line_of.ensures ∙ not) (λ z. grind (arith, z)))
 
-pub returns-in-Unreadable : goal.returns-in-Unreadable
-returns-in-Unreadable c =
-    (c.loop-rest.before, omega arith, reached _ _ _ _ _ _ c.loop-rest.invariant.0 (found (goal.at.returns-in-Unreadable c).After-line_of) _ (sym c.in-Unreadable.ensures))
+pub loop-i-preserved-in-Continue-branch-2 : goal.loop-i-preserved-in-Continue-branch-2
+loop-i-preserved-in-Continue-branch-2 c =
+    let e = parts_in c.args.bytes.now c.loop-i.i-iterator c.next.new.self c.next.result c.next.ensures.steps c.split.ensures.rest c.split.ensures.done c.split.ensures.closure (ap enumerate_source c.into_iter-i-iterator.ensures.into_iter_gives ∙ c.enumerate-i-items.ensures.source) (ap enumerate_count c.into_iter-i-iterator.ensures.into_iter_gives ∙ c.enumerate-i-items.ensures.count) (λ x b q k. search rules) in
+    let here = met _ _ _ _ (YieldsList-turn e c.loop-i.yielded c.loop-i.i-iterator c.loop-i.yielded_by c.next.result c.next.new.self (c.in-Some.i, c.in-Some.line) c.in-Some.is c.next.ensures.steps) in
+    let is : c.line_of.result ≡ Ok (Some c.in-Some-said.row) = search rules in
+    let pushed = c.in_ok-push.ensures.items ∙ ap (λ x. vec_items c.loop-i.rows ++ row_list x) (sym is ∙ c.line_of.ensures) in
+    let more = turn _ _ _ _ _ _ here.within (length-append c.loop-i.yielded _) here.part c.loop-i.invariant.2 (says_row c.in-Some.line.now c.in-Some-said.row (sym c.line_of.ensures ∙ is)) pushed in
+    (search rules, tt, more)
 
-pub returns-then-is_err : goal.returns-then-is_err
-returns-then-is_err c =
-    (c.loop-rest.before, c.in-Row.row, reached _ _ _ _ _ _ c.loop-rest.invariant.0 (found (goal.at.returns-then-is_err c).After-line_of) _ (sym c.in-Row.ensures))
+pub returns-in_err-push : goal.returns-in_err-push
+returns-in_err-push c =
+    let e = parts_in c.args.bytes.now c.loop-i.i-iterator c.next.new.self c.next.result c.next.ensures.steps c.split.ensures.rest c.split.ensures.done c.split.ensures.closure (ap enumerate_source c.into_iter-i-iterator.ensures.into_iter_gives ∙ c.enumerate-i-items.ensures.source) (ap enumerate_count c.into_iter-i-iterator.ensures.into_iter_gives ∙ c.enumerate-i-items.ensures.count) (λ x b q k. search rules) in
+    let here = met _ _ _ _ (YieldsList-turn e c.loop-i.yielded c.loop-i.i-iterator c.loop-i.yielded_by c.next.result c.next.new.self (c.in-Some.i, c.in-Some.line) c.in-Some.is c.next.ensures.steps) in
+    let is : c.line_of.result ≡ Ok (Some c.in-Some-said.row) = search rules in
+    let why : c.from_residual-in_err-push.result ≡ Err u.NoMemory = search rules in
+    rw why (length c.loop-i.yielded, c.in-Some-said.row, reached _ _ _ _ here.within c.loop-i.invariant.2 (ap said (sym here.part) ∙ sym c.line_of.ensures ∙ is) (λ z. grind (arith, z)))
 
-pub loop-rest-smaller : goal.loop-rest-smaller
-loop-rest-smaller c = shorter _ _ _ (found (goal.at.loop-rest-smaller c).After-line_of)
-
-pub loop-rest-preserved : goal.loop-rest-preserved
-loop-rest-preserved c =
-    let first = found (goal.at.loop-rest-preserved c).After-line_of in
-    let rows = vec_items c.loop-rest.rows in (
-      elim c.match-line_of.branch [
-        | in-Blank w ↦
-            turn _ _ _ _ _ _ c.loop-rest.invariant.0 first _ (blank_readable c.first_piece-line.result.front.now (sym w.in-Blank.ensures))
-            (ap vec_items w.rows-is ∙ sym (append-nil rows) ∙ ap (λ x. rows ++ row_list x) w.in-Blank.ensures)
-        | in-Row+else-is_err w ↦
-            turn _ _ _ _ _ _ c.loop-rest.invariant.0 first _ (row_readable c.first_piece-line.result.front.now w.in-Row.row (sym w.in-Row.ensures))
-            (ap vec_items w.rows-is ∙ w.push.ensures.items ∙ cond-true (is_ok w.push.result) (rows ++ (w.in-Row.row ∷ [])) rows w.if-is_err.ensures.negation ∙ ap (λ x. rows ++ row_list x) w.in-Row.ensures)
-      ],
-      omega (arith, shorter _ _ _ first, c.loop-rest.invariant.1),
-    )
+pub loop-i-preserved : goal.loop-i-preserved
+loop-i-preserved c =
+    let e = parts_in c.args.bytes.now c.loop-i.i-iterator c.next.new.self c.next.result c.next.ensures.steps c.split.ensures.rest c.split.ensures.done c.split.ensures.closure (ap enumerate_source c.into_iter-i-iterator.ensures.into_iter_gives ∙ c.enumerate-i-items.ensures.source) (ap enumerate_count c.into_iter-i-iterator.ensures.into_iter_gives ∙ c.enumerate-i-items.ensures.count) (λ x b q k. search rules) in
+    let here = met _ _ _ _ (YieldsList-turn e c.loop-i.yielded c.loop-i.i-iterator c.loop-i.yielded_by c.next.result c.next.new.self (c.in-Some.i, c.in-Some.line) c.in-Some.is c.next.ensures.steps) in
+    let is : c.line_of.result ≡ Ok None = search rules in
+    let same = sym (append-nil (vec_items c.loop-i.rows)) ∙ ap (λ x. vec_items c.loop-i.rows ++ row_list x) (sym is ∙ c.line_of.ensures) in
+    let more = turn _ _ _ _ _ _ here.within (length-append c.loop-i.yielded _) here.part c.loop-i.invariant.2 (says_nothing c.in-Some.line.now (sym c.line_of.ensures ∙ is)) same in
+    (search rules, tt, more)
 
 pub returns : goal.returns
-returns c = done _ _ _ _ c.loop-rest.invariant.0 (eqb-true _ 0 (sym c.loop-rest-test.ensures))
+returns c =
+    let e = parts_in c.args.bytes.now c.loop-i.i-iterator c.next.new.self c.next.result c.next.ensures.steps c.split.ensures.rest c.split.ensures.done c.split.ensures.closure (ap enumerate_source c.into_iter-i-iterator.ensures.into_iter_gives ∙ c.enumerate-i-items.ensures.source) (ap enumerate_count c.into_iter-i-iterator.ensures.into_iter_gives ∙ c.enumerate-i-items.ensures.count) (λ x b q k. search rules) in
+    let all = YieldsList-end e c.loop-i.yielded c.loop-i.i-iterator c.loop-i.yielded_by c.next.result c.next.new.self c.in-None.is c.next.ensures.steps in
+    done _ _ _ c.loop-i.invariant.2 (all.1 ∙ length-enumerate_from 0 _)

@@ -1,9 +1,8 @@
-use Rattle.std.proofs.Common.{◌+◌, ◌≤◌, length, vec_items}
+use Rattle.std.proofs.Common.{eqb, length, vec_items}
+use Rattle.std.specs.List.{slice_split}
 use Rattle.rows.proofs.Turns.{ReadsTo}
 use Rattle.rows.proofs.read_rows.Given as goal
 
-abbrev pub invariant-loop-rest : goal.invariant-loop-rest
-invariant-loop-rest l = ReadsTo l.bytes l.rest l.before (vec_items l.rows) × (l.before + length l.rest ≤ length l.bytes)
-
-abbrev pub decreases-loop-rest : goal.decreases-loop-rest
-decreases-loop-rest l = length l.rest
+abbrev pub invariant-loop-i : goal.invariant-loop-i
+invariant-loop-i l =
+    (goal.iterator-loop-i).can_next l.i-iterator × (goal.iterator-loop-i).is_finite l.i-iterator × ReadsTo (slice_split (λ b. eqb b 10) l.bytes) (length l.yielded) (vec_items l.rows)

@@ -2,12 +2,12 @@ use Rattle.std.proofs.Common.{◌<◌, ◌≤◌, vec_items, arith}
 use Rattle.model.specs.Syntax.{solid, many}
 use Rattle.model.specs.Counts.{count}
 use Rattle.program.specs.Elements.{nodes_of}
-use Rattle.program.proofs.Items.{list_long}
+use Rattle.program.proofs.Items.{list_long, list_holds}
 use Rattle.program.proofs.Layouts.{few_nodes}
 use Rattle.probe.specs.declared.task.Frame.TheVariants.{Rest}
 use Rattle.probe.specs.Terms.{term}
 use Rattle.probe.specs.Walking.{asked, walking}
-use Rattle.probe.proofs.Leaving.{last_of, leave_left, leave_right, leave_done, leave_next, next_holds}
+use Rattle.probe.proofs.Leaving.{last_of, leave_left, leave_right, leave_done, leave_next}
 use Rattle.probe.proofs.walk.Walker.leave.Goals as goal
 
 pub returns-in-Left : goal.returns-in-Left
@@ -27,7 +27,7 @@ returns-then-next-measure_at g c = let r = c.in-Rest in
     let few : r.next < count (term nodes (many solid) r.list.term.place) = omega (arith, n.0, c.if-next-measure_at.true) in
     rw c.push_reserved-then-next-measure_at.ensures.items
     (leave_next nodes fs m c.args.frame r.list c.item-element.result r.next r.earlier c.args.held c.applied-any.result r.is c.applied-any.ensures few (few_nodes c.args.self.now.layout.now)
-    (c.item-element.ensures m _ (next_holds nodes fs m c.args.frame r.list r.next r.earlier r.is c.requires.sound few)) c.requires.sound)
+    (c.item-element.ensures m _ (list_holds (walking m) nodes r.list.term (term nodes (many solid) r.list.term.place) list r.next few)) c.requires.sound)
 
 pub returns-else-next-measure_at : goal.returns-else-next-measure_at
 returns-else-next-measure_at g c = let r = c.in-Rest in
