@@ -1,28 +1,19 @@
 -- Products and sums that fit their types.
-use Rattle.std.proofs.Common.{◌≡◌, ℕ, zero, suc, ◌*◌, ◌≤◌, true, ◌&&◌, eqb, ℤ, pos, negsuc, ◌+ℤ◌, ◌*ℤ◌, neg_ℤ, nat_abs, refl, mul-le-mul, arith, w64, SFits}
+use Rattle.std.proofs.Common.{◌≡◌, ℕ, ◌*◌, ◌≤◌, true, ◌&&◌, eqb, ℤ, pos, ◌+ℤ◌, ◌*ℤ◌, neg_ℤ, nat_abs, mul-le-mul, arith, w64, SFits}
 use borrow.Author.Differences.{ints}
 use lib.Signed.{le_z}
 use mir.Syntax.{w128}
 use Rattle.std.proofs.lemmas.Bool.{and_parts}
+use Rattle.std.proofs.lemmas.Int.{unsigned_abs-mul, fits_signed_mul}
 use Rattle.model.specs.declared.point.Point.{Point}
 use Rattle.model.specs.declared.point.Primitive.{Primitive}
 use Rattle.model.specs.Bytes.{is_zero}
 use Rattle.family.specs.Reaching.{between, farthest, near, in_reach}
 use Rattle.family.specs.Standard.{is_size, is_cylinder}
 
-abs_neg : (n : ℕ) → nat_abs (neg_ℤ (pos n)) ≡ n
-abs_neg zero = refl
-abs_neg (suc n) = refl
-
-abs_mul : (a b : ℤ) → nat_abs (a *ℤ b) ≡ nat_abs a * nat_abs b
-abs_mul (pos a) (pos b) = refl
-abs_mul (pos a) (negsuc b) = abs_neg (a * suc b)
-abs_mul (negsuc a) (pos b) = abs_neg (suc a * b)
-abs_mul (negsuc a) (negsuc b) = refl
-
 -- a product is at most the product of the bounds
 pub abs_bound : (a b : ℤ) (m n : ℕ) → nat_abs a ≤ m → nat_abs b ≤ n → nat_abs (a *ℤ b) ≤ m * n
-abs_bound a b m n p q = rw (abs_mul a b) (mul-le-mul p q)
+abs_bound a b m n p q = rw (unsigned_abs-mul a b) (mul-le-mul p q)
 
 -- a coordinate in reach
 pub near_abs : (v : ℤ) → near v ≡ true → nat_abs v ≤ 1000000000
@@ -60,10 +51,7 @@ radius_fits r p e f =
     let a = and_parts (eqb r.kind 2 && is_size r.sizes.x && is_size r.sizes.y) (is_zero r.sizes.z) e in
     let b = and_parts (eqb r.kind 2 && is_size r.sizes.x) (is_size r.sizes.y) a.0 in
     let c = and_parts (eqb r.kind 2) (is_size r.sizes.x) b.0 in
-    small (r.sizes.x *ℤ p.w) (abs_bound r.sizes.x p.w 1000000 1000 (size_abs r.sizes.x c.1) (reached p f).w)
-  where
-    small : (z : ℤ) → nat_abs z ≤ 1000000000 → SFits w64 z
-    small z h = omega (arith, ints)
+    fits_signed_mul w64 r.sizes.x p.w 1000000 1000 (size_abs r.sizes.x c.1) (reached p f).w (omega arith)
 
 -- a number of 64 bits times a coordinate in reach
 far_product : (a x : ℤ) → SFits w64 a → nat_abs x ≤ 1000000000 → nat_abs (a *ℤ x) ≤ 9223372036854775808000000000

@@ -1,8 +1,8 @@
 -- Sizes that each rest on a test make a record that rests on all the tests.
-use Rattle.std.proofs.Common.{◌≡◌, ℕ, Bool, true, false, ◌&&◌, eqb, ℤ, pos, ◌*ℤ◌, nat_abs, ◌≤ℤ◌, Some, Option, sym, refl, ap, ◌∙◌, subst, arith}
-use borrow.Author.Differences.{ints}
-use lib.Signed.{le_z, lt_z}
-use Rattle.std.proofs.lemmas.Bool.{and_parts}
+use Rattle.std.proofs.Common.{◌≡◌, ℕ, zero, suc, Bool, true, false, ◌&&◌, eqb, ℤ, pos, ◌*ℤ◌, nat_abs, Some, Option, sym, refl, ap, ◌∙◌, subst, arith}
+use lib.Signed.{lt_z}
+use Rattle.std.proofs.Math.IntN.{*ℤ-zero}
+use Rattle.std.proofs.lemmas.Bool.{and_parts, lt-ltb}
 use Rattle.model.specs.declared.node.Triple.{Triple}
 use Rattle.model.specs.declared.point.Primitive.{Primitive}
 use Rattle.model.specs.Bytes.{is_zero}
@@ -38,18 +38,11 @@ box_kind r e =
     let b = and_parts (eqb r.kind 1 && is_size r.sizes.x) (is_size r.sizes.y) a.0 in
     (and_parts (eqb r.kind 1) (is_size r.sizes.x) b.0).0
 
--- the kind and the radius of a cylinder
-pub record Round (r : Primitive) : Type 0 where
-  pub kind : eqb r.kind 2 ≡ true
-  pub radius : (pos 1 ≤ℤ r.sizes.x) × (r.sizes.x ≤ℤ pos 1000000)
-
-pub round : (r : Primitive) → is_cylinder r ≡ true → Round r
-round r e =
+cylinder_kind : (r : Primitive) → is_cylinder r ≡ true → eqb r.kind 2 ≡ true
+cylinder_kind r e =
     let a = and_parts (eqb r.kind 2 && is_size r.sizes.x && is_size r.sizes.y) (is_zero r.sizes.z) e in
     let b = and_parts (eqb r.kind 2 && is_size r.sizes.x) (is_size r.sizes.y) a.0 in
-    let c = and_parts (eqb r.kind 2) (is_size r.sizes.x) b.0 in
-    let h = and_parts (le_z (pos 1) r.sizes.x) (le_z r.sizes.x (pos 1000000)) c.1 in
-    record { kind = c.0; radius = (omega (arith, ints, h.0), omega (arith, ints, h.1)) }
+    (and_parts (eqb r.kind 2) (is_size r.sizes.x) b.0).0
 
 -- a size times its factor, as `stretched` answers it
 abbrev pub stretch : ℤ → ℤ → Option ℤ
@@ -69,14 +62,20 @@ box_joint r f e =
     (subst (λ (k : Bool). ((a && is_size x) && (b && is_size y) && (c && is_size z)) ≡ (a && b && c && (k && is_size x && is_size y && is_size z)))
     (sym (box_kind r e)) (box_tests a (is_size x) b (is_size y) c (is_size z)))
 
+-- a size times 0 is no size, so a number without its sign needs no test
+nonzero : (a : ℤ) (n : ℕ) → stretch a (pos n) ≡ when (is_size (a *ℤ pos n)) (a *ℤ pos n)
+nonzero a zero = rw (*ℤ-zero a) refl
+nonzero a (suc n) = rw (lt-ltb 0 (suc n) (omega arith)) refl
+
 pub cylinder_joint : (r : Primitive) (f : Triple) → is_cylinder r ≡ true → eqb (nat_abs f.x) (nat_abs f.y) ≡ true
-    → joint r.kind (when (is_size (r.sizes.x *ℤ pos (nat_abs f.x))) (r.sizes.x *ℤ pos (nat_abs f.x))) (stretch r.sizes.y f.z) (Some (pos 0)) ≡ cylinder_absorbed r f
+    → joint r.kind (stretch r.sizes.x (pos (nat_abs f.x))) (stretch r.sizes.y f.z) (Some (pos 0)) ≡ cylinder_absorbed r f
 cylinder_joint r f e g =
     let u = lt_z (pos 0) f.z in
     let x = r.sizes.x *ℤ pos (nat_abs f.x) in
     let y = r.sizes.y *ℤ f.z in
-    joint_when r.kind x y (pos 0) (is_size x) (u && is_size y) true
+    ap (λ (o : Option ℤ). joint r.kind o (stretch r.sizes.y f.z) (Some (pos 0))) (nonzero r.sizes.x (nat_abs f.x))
+    ∙ joint_when r.kind x y (pos 0) (is_size x) (u && is_size y) true
     ∙ ap (λ (t : Bool). when t (larger_cylinder r f))
     (subst (λ (m : Bool). (is_size x && (u && is_size y) && true) ≡ (m && u && (eqb r.kind 2 && is_size x && is_size y && true))) (sym g)
-    (subst (λ (k : Bool). (is_size x && (u && is_size y) && true) ≡ (true && u && (k && is_size x && is_size y && true))) (sym (round r e).kind)
+    (subst (λ (k : Bool). (is_size x && (u && is_size y) && true) ≡ (true && u && (k && is_size x && is_size y && true))) (sym (cylinder_kind r e))
     (cylinder_tests (is_size x) u (is_size y))))

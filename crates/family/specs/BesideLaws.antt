@@ -1,6 +1,7 @@
 -- Two lawful families side by side are a lawful family. Assumes nothing.
 use Rattle.std.specs.Prelude.{◌≡◌, ℕ, ◌+◌, ◌*◌, ◌/◌, ◌%◌, ◌<◌, true, false, ℤ, pos, ◌<ℤ◌, Some, None, Option, refl}
 use Rattle.std.proofs.Common.{sym, ◌∙◌, ap, subst, inl, inr, arith}
+use Rattle.std.proofs.lemmas.Option.{none-some}
 use Rattle.std.proofs.lemmas.Bool.{cases_Bool, eqb-true, eqb-false, cond-true, cond-false, eq-eqb, ne_eqb}
 use Rattle.std.specs.Option.{option_map}
 use Rattle.model.specs.declared.node.Triple.{Triple}
@@ -8,11 +9,10 @@ use Rattle.model.specs.declared.point.Point.{Point}
 use Rattle.model.specs.declared.point.Primitive.{Primitive}
 use Rattle.model.specs.Families.{Meaning, Laws, Absorbs, times}
 use Rattle.family.specs.Beside.{beside, is_first, of_kind, own, outer}
-use Rattle.family.specs.Scaled.{never}
 
 -- where a mapped answer comes from
 came_from : {X Y : Type 0} (f : X → Y) (o : Option X) (y : Y) → option_map f o ≡ Some y → (x : X) × ((o ≡ Some x) × (y ≡ f x))
-came_from f None y e = absurd (never y e)
+came_from f None y e = absurd (none-some y e)
 came_from f (Some x) y e = (x, (refl, cc))
 
 -- a record keeps its kind where its own family's record does

@@ -2,6 +2,7 @@
 use Rattle.std.specs.Prelude.{◌≡◌, ℕ, ◌<◌, Bool, true, false, cond, List, [], ◌∷◌, ℤ, pos, ◌+ℤ◌, ◌*ℤ◌, ◌<ℤ◌, refl}
 use Rattle.std.specs.List.{list_all}
 use Rattle.std.proofs.Common.{sym, ap, subst}
+use Rattle.std.proofs.lemmas.Option.{none-some}
 use Rattle.std.proofs.lemmas.Bool.{cond-false}
 use Rattle.model.specs.declared.point.Point.{Point}
 use Rattle.model.specs.declared.point.Primitive.{Primitive}
@@ -9,7 +10,7 @@ use Rattle.model.specs.Families.{Laws, times}
 use Rattle.family.specs.declared.catalogue.Row.{Row}
 use Rattle.family.specs.Catalogue.{catalogue, listed, admits, of_profile}
 use Rattle.family.specs.Ring.{ring, *ℤ-left-comm}
-use Rattle.family.specs.Scaled.{le_times, and_same, natural, never}
+use Rattle.family.specs.Scaled.{le_times, and_same, natural}
 
 -- a sum of products, with the common factor in front
 sums : (a b c x y z k : ℤ) → a *ℤ (k *ℤ x) +ℤ b *ℤ (k *ℤ y) +ℤ c *ℤ (k *ℤ z) ≡ k *ℤ (a *ℤ x +ℤ b *ℤ y +ℤ c *ℤ z)
@@ -37,6 +38,6 @@ place rows r p k h =
 pub catalogue_laws : (rows : List Row) → Laws (catalogue rows)
 catalogue_laws rows = record {
   illegal_empty = λ r p e. cond-false (listed rows r) (list_all (admits r.kind p) rows) false e;
-  absorbs = λ r f q e. absurd (never q e);
+  absorbs = λ r f q e. absurd (none-some q e);
   same_place = λ r p k w h. place rows r p k h;
 }

@@ -1,5 +1,5 @@
 -- Tests under a positive factor. Assumes nothing.
-use Rattle.std.specs.Prelude.{◌≡◌, ℕ, ◌<◌, Bool, ◌&&◌, ℤ, pos, negsuc, ◌*ℤ◌, ◌<ℤ◌, Some, None, ◌≢◌, int_le, refl}
+use Rattle.std.specs.Prelude.{◌≡◌, ℕ, ◌<◌, Bool, ◌&&◌, ℤ, pos, negsuc, ◌*ℤ◌, ◌<ℤ◌, int_le, refl}
 use Rattle.std.proofs.Common.{sym, ◌∙◌, ap, inl, inr, mul-le-mul_left, mul-add, arith}
 use Rattle.std.proofs.Math.Nat.{mul-lt-mul_of_pos_left}
 use borrow.Author.Differences.{product_is, le-true, le-false, true_is_le, false_is_le, ints}
@@ -44,7 +44,3 @@ and_same p q = cc
 pub natural : (k : ℤ) → pos 0 <ℤ k → (n : ℕ) × ((k ≡ pos n) × (0 < n))
 natural (pos n) h = (n, (refl, omega (arith, ints)))
 natural (negsuc n) h = absurd h.lt
-
--- no answer is not an answer
-pub never : {X : Type 0} (x : X) → None ≢ Some x
-never x e = let z : ◌≡◌ {A = ℕ} 0 1 = cc in omega arith

@@ -3,13 +3,14 @@ use Rattle.std.specs.Prelude.{◌≡◌, ℕ, zero, suc, ◌<◌, Bool, true, fa
 use Rattle.std.proofs.Common.{sym, ◌∙◌, ap, subst, inl, inr, arith}
 use Rattle.std.proofs.lemmas.Int.{ints}
 use Rattle.std.proofs.Math.IntN.{*ℤ-zero}
+use Rattle.std.proofs.lemmas.Option.{none-some}
 use Rattle.std.proofs.lemmas.Bool.{cases_Bool, true≢false, false≢true, and_parts, eqb-true, or_left, or_right, cond-true, cond-false}
 use Rattle.model.specs.declared.node.Triple.{Triple}
 use Rattle.model.specs.declared.point.Point.{Point}
 use Rattle.model.specs.declared.point.Primitive.{Primitive}
 use Rattle.model.specs.Families.{Laws, Absorbs, times, rescaled}
 use Rattle.family.specs.Standard.{standard, is_size, is_box, is_cylinder, in_box, in_cylinder, holds, absorbed_by, when, larger_box, larger_cylinder, box_absorbed, cylinder_absorbed}
-use Rattle.family.specs.Scaled.{factors, natural, never}
+use Rattle.family.specs.Scaled.{factors, natural}
 use Rattle.family.specs.BoxLaws.{box_place, box_points}
 use Rattle.family.specs.CylinderLaws.{cylinder_place, cylinder_points}
 
@@ -121,7 +122,7 @@ absorbing r f q e =
           let g = sym (cond-false (is_box r) (box_absorbed r f) rest b) ∙ e in
           elim (cases_Bool (is_cylinder r)) [
             | inl cy ↦ cylinder_case r f q b cy (sym (cond-true (is_cylinder r) (cylinder_absorbed r f) None cy) ∙ g)
-            | inr cy ↦ absurd (never q (sym (cond-false (is_cylinder r) (cylinder_absorbed r f) None cy) ∙ g))
+            | inr cy ↦ absurd (none-some q (sym (cond-false (is_cylinder r) (cylinder_absorbed r f) None cy) ∙ g))
           ]
     ]
 

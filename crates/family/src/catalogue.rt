@@ -91,6 +91,12 @@ fn all_admit(rows: &[Row], kind: u16, at: Reachable) -> bool
     rows.iter().all(|row| admits(row, kind, at))
 }
 
+fn holds(rows: &[Row], primitive: &Primitive, at: Reachable) -> bool
+    ensures { result ≡ (catalogue rows.now).contains primitive.now at }
+{
+    is_listed(rows, primitive) && all_admit(rows, primitive.kind, at)
+}
+
 impl<'a> Family for Catalogue<'a> {
     ghost meaning = { λ s. catalogue s.rows.now };
 
@@ -104,7 +110,7 @@ impl<'a> Family for Catalogue<'a> {
         let Some(at) = Reachable::new(*at) else {
             return Reach::OutOfReach;
         };
-        if is_listed(self.rows, primitive) && all_admit(self.rows, primitive.kind, at) {
+        if holds(self.rows, primitive, at) {
             Reach::In
         } else {
             Reach::Out

@@ -5,6 +5,7 @@ ghost use Rattle.family.specs.Reaching.{reach};
 
 use model::{Point, Primitive, Triple};
 
+/// Whether a record contains a point. Three named answers, where an `Option<bool>` would name none.
 #[derive(Clone, Copy, PartialEq, Eq)]
 pub enum Reach {
     In,

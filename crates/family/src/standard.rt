@@ -1,5 +1,5 @@
 // The standard family: boxes and upright cylinders.
-ghost use Rattle.std.specs.Prelude.{◌≡◌, true, ◌&&◌, pos, ◌*ℤ◌, ◌≤ℤ◌, int_lt};
+ghost use Rattle.std.specs.Prelude.{◌≡◌, true, ◌&&◌, ◌≤◌, ◌^◌, pos, ◌*ℤ◌, int_lt, unsigned_abs};
 ghost use Rattle.family.specs.Standard.{standard, is_size, is_box, is_cylinder, along, over_base, in_box, in_circle, in_cylinder, holds, when, joint, box_absorbed, cylinder_absorbed};
 ghost use Rattle.family.specs.StandardLaws.{standard_laws};
 
@@ -79,25 +79,13 @@ fn holds(primitive: &Primitive, at: Reachable) -> bool
     }
 }
 
-/// A size times a factor without its sign, if that is a size too.
-fn enlarged(size: i64, factor: u64) -> Option<i64>
-    requires { (pos 1 ≤ℤ size) × (size ≤ℤ pos 1000000) }
-    ensures { result ≡ when (is_size (size *ℤ pos factor)) (size *ℤ pos factor) }
-{
-    let larger = size as u128 * factor as u128;
-    if larger >= 1 && larger <= LARGEST as u128 {
-        Some(larger as i64)
-    } else {
-        None
-    }
-}
-
 /// A size times a factor, if the factor is positive and the product is a size too.
-fn stretched(size: i64, factor: i64) -> Option<i64>
+fn stretched(size: i64, factor: i128) -> Option<i64>
+    requires { unsigned_abs factor ≤ 2 ^ 63 }
     ensures { result ≡ when (int_lt (pos 0) factor && is_size (size *ℤ factor)) (size *ℤ factor) }
 {
-    let larger = product(size, factor);
-    if factor > 0 && larger >= 1 && larger <= LARGEST as i128 {
+    let larger = i128::from(size) * factor;
+    if factor > 0 && larger >= 1 && larger <= i128::from(LARGEST) {
         Some(larger as i64)
     } else {
         None
@@ -122,9 +110,9 @@ fn larger_box(primitive: &Primitive, factors: Triple) -> Option<Primitive>
     let sizes = primitive.sizes;
     joined(
         primitive.kind,
-        stretched(sizes.x, factors.x),
-        stretched(sizes.y, factors.y),
-        stretched(sizes.z, factors.z),
+        stretched(sizes.x, i128::from(factors.x)),
+        stretched(sizes.y, i128::from(factors.y)),
+        stretched(sizes.z, i128::from(factors.z)),
     )
 }
 
@@ -138,8 +126,8 @@ fn larger_cylinder(primitive: &Primitive, factors: Triple) -> Option<Primitive>
     }
     joined(
         primitive.kind,
-        enlarged(primitive.sizes.x, across),
-        stretched(primitive.sizes.y, factors.z),
+        stretched(primitive.sizes.x, i128::from(across)),
+        stretched(primitive.sizes.y, i128::from(factors.z)),
         Some(0),
     )
 }
