@@ -22,6 +22,6 @@ mod walk;
 pub use element::{Both, Item, Term};
 pub use layout::Layout;
 pub use measure::Measure;
-pub use narrow::{bounded_at, narrowed};
+pub use narrow::narrowed;
 pub use part::Part;
 pub use unloaded::Unloaded;

@@ -30,7 +30,7 @@ pub fn narrowed(most: u32, vector: Wide) -> Option<Triple>
 }
 
 /// The same of a vector at an index.
-pub fn bounded_at(most: u32, vector: Linear, index: u64) -> Option<Triple>
+pub(crate) fn bounded_at(most: u32, vector: Linear, index: u64) -> Option<Triple>
     ensures { result ≡ bounded most (at_index index vector) }
 {
     narrowed(most, vector.at(index))
