@@ -1,5 +1,5 @@
 -- Products and sums that fit their types.
-use Rattle.std.proofs.Common.{◌≡◌, ℕ, ◌*◌, ◌≤◌, true, ◌&&◌, eqb, ℤ, pos, ◌+ℤ◌, ◌*ℤ◌, neg_ℤ, nat_abs, mul-le-mul, arith, w64, SFits}
+use Rattle.std.proofs.Common.{◌≡◌, ◌^◌, ℕ, ◌*◌, ◌≤◌, true, ◌&&◌, eqb, ℤ, pos, ◌+ℤ◌, ◌*ℤ◌, neg_ℤ, nat_abs, mul-le-mul, arith, w64, SFits}
 use borrow.Author.Differences.{ints}
 use lib.Signed.{le_z}
 use mir.Syntax.{w128}
@@ -73,3 +73,9 @@ three_fit p q r at fp fq fr e =
   where
     sum : (a b c : ℤ) → nat_abs a ≤ 9223372036854775808000000000 → nat_abs b ≤ 9223372036854775808000000000 → nat_abs c ≤ 9223372036854775808000000000 → SFits w128 (a +ℤ b +ℤ c)
     sum a b c ha hb hc = omega (arith, ints)
+
+-- a number of 64 bits times another one without its sign
+pub unsigned_fits : (a b : ℤ) → SFits w64 a → SFits w64 b → SFits w128 (a *ℤ pos (nat_abs b))
+unsigned_fits a b fa fb =
+    let most : nat_abs b ≤ 2 ^ 63 = omega (arith, ints) in
+    fits_signed_mul w128 a (pos (nat_abs b)) (2 ^ 63) (2 ^ 63) (omega (arith, ints)) most (omega arith)

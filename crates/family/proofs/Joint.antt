@@ -1,6 +1,8 @@
 -- Sizes that each rest on a test make a record that rests on all the tests.
-use Rattle.std.proofs.Common.{◌≡◌, ℕ, zero, suc, Bool, true, false, ◌&&◌, eqb, ℤ, pos, ◌*ℤ◌, nat_abs, Some, Option, sym, refl, ap, ◌∙◌, subst, arith}
-use lib.Signed.{lt_z}
+use Rattle.std.proofs.Common.{◌≡◌, ℕ, zero, suc, ◌*◌, Bool, true, false, ◌&&◌, eqb, ℤ, pos, negsuc, neg_ℤ, ◌*ℤ◌, nat_abs, ◌≤ℤ◌, Some, Option, sym, refl, ap, ◌∙◌, subst, arith}
+use borrow.Author.Differences.{ints}
+use lib.Signed.{le_z, lt_z}
+use Rattle.family.specs.Scaled.{and_same}
 use Rattle.std.proofs.Math.IntN.{*ℤ-zero}
 use Rattle.std.proofs.lemmas.Bool.{and_parts, lt-ltb}
 use Rattle.model.specs.declared.node.Triple.{Triple}
@@ -32,50 +34,54 @@ cylinder_tests false true q = refl
 cylinder_tests true false q = refl
 cylinder_tests true true q = refl
 
-box_kind : (r : Primitive) → is_box r ≡ true → eqb r.kind 1 ≡ true
-box_kind r e =
-    let a = and_parts (eqb r.kind 1 && is_size r.sizes.x && is_size r.sizes.y) (is_size r.sizes.z) e in
-    let b = and_parts (eqb r.kind 1 && is_size r.sizes.x) (is_size r.sizes.y) a.0 in
-    (and_parts (eqb r.kind 1) (is_size r.sizes.x) b.0).0
+positive_size : (v : ℤ) → is_size v ≡ true → pos 1 ≤ℤ v
+positive_size v e = let h = and_parts (le_z (pos 1) v) (le_z v (pos 1000000)) e in omega (arith, ints, h.0)
 
-cylinder_kind : (r : Primitive) → is_cylinder r ≡ true → eqb r.kind 2 ≡ true
-cylinder_kind r e =
-    let a = and_parts (eqb r.kind 2 && is_size r.sizes.x && is_size r.sizes.y) (is_zero r.sizes.z) e in
-    let b = and_parts (eqb r.kind 2 && is_size r.sizes.x) (is_size r.sizes.y) a.0 in
-    (and_parts (eqb r.kind 2) (is_size r.sizes.x) b.0).0
+negative : (k : ℕ) → false ≡ is_size (neg_ℤ (pos k))
+negative zero = refl
+negative (suc k) = refl
 
--- a size times its factor, as `stretched` answers it
-abbrev pub stretch : ℤ → ℤ → Option ℤ
-stretch a s = when (lt_z (pos 0) s && is_size (a *ℤ s)) (a *ℤ s)
+-- a size stays one only under a positive factor
+factor_test : (a s : ℤ) → pos 1 ≤ℤ a → is_size (a *ℤ s) ≡ (lt_z (pos 0) s && is_size (a *ℤ s))
+factor_test a (pos zero) h = rw (*ℤ-zero a) refl
+factor_test a (pos (suc n)) h = rw (lt-ltb 0 (suc n) (omega arith)) refl
+factor_test (pos m) (negsuc n) h = sym (negative (m * suc n))
+factor_test (negsuc m) (negsuc n) h = absurd (omega (arith, ints))
+
+-- a value, if it is a size
+abbrev pub sized : ℤ → Option ℤ
+sized v = when (is_size v) v
 
 pub box_joint : (r : Primitive) (f : Triple) → is_box r ≡ true
-    → joint r.kind (stretch r.sizes.x f.x) (stretch r.sizes.y f.y) (stretch r.sizes.z f.z) ≡ box_absorbed r f
+    → joint r.kind (sized (r.sizes.x *ℤ f.x)) (sized (r.sizes.y *ℤ f.y)) (sized (r.sizes.z *ℤ f.z)) ≡ box_absorbed r f
 box_joint r f e =
+    let d = and_parts (eqb r.kind 1 && is_size r.sizes.x && is_size r.sizes.y) (is_size r.sizes.z) e in
+    let g = and_parts (eqb r.kind 1 && is_size r.sizes.x) (is_size r.sizes.y) d.0 in
+    let h = and_parts (eqb r.kind 1) (is_size r.sizes.x) g.0 in
     let a = lt_z (pos 0) f.x in
     let b = lt_z (pos 0) f.y in
     let c = lt_z (pos 0) f.z in
     let x = r.sizes.x *ℤ f.x in
     let y = r.sizes.y *ℤ f.y in
     let z = r.sizes.z *ℤ f.z in
-    joint_when r.kind x y z (a && is_size x) (b && is_size y) (c && is_size z)
+    joint_when r.kind x y z (is_size x) (is_size y) (is_size z)
     ∙ ap (λ (t : Bool). when t (larger_box r f))
-    (subst (λ (k : Bool). ((a && is_size x) && (b && is_size y) && (c && is_size z)) ≡ (a && b && c && (k && is_size x && is_size y && is_size z)))
-    (sym (box_kind r e)) (box_tests a (is_size x) b (is_size y) c (is_size z)))
-
--- a size times 0 is no size, so a number without its sign needs no test
-nonzero : (a : ℤ) (n : ℕ) → stretch a (pos n) ≡ when (is_size (a *ℤ pos n)) (a *ℤ pos n)
-nonzero a zero = rw (*ℤ-zero a) refl
-nonzero a (suc n) = rw (lt-ltb 0 (suc n) (omega arith)) refl
+    (and_same (and_same (factor_test r.sizes.x f.x (positive_size r.sizes.x h.1)) (factor_test r.sizes.y f.y (positive_size r.sizes.y g.1))) (factor_test r.sizes.z f.z (positive_size r.sizes.z d.1))
+    ∙ subst (λ (k : Bool). ((a && is_size x) && (b && is_size y) && (c && is_size z)) ≡ (a && b && c && (k && is_size x && is_size y && is_size z)))
+    (sym h.0) (box_tests a (is_size x) b (is_size y) c (is_size z)))
 
 pub cylinder_joint : (r : Primitive) (f : Triple) → is_cylinder r ≡ true → eqb (nat_abs f.x) (nat_abs f.y) ≡ true
-    → joint r.kind (stretch r.sizes.x (pos (nat_abs f.x))) (stretch r.sizes.y f.z) (Some (pos 0)) ≡ cylinder_absorbed r f
+    → joint r.kind (sized (r.sizes.x *ℤ pos (nat_abs f.x))) (sized (r.sizes.y *ℤ f.z)) (Some (pos 0)) ≡ cylinder_absorbed r f
 cylinder_joint r f e g =
+    let d = and_parts (eqb r.kind 2 && is_size r.sizes.x && is_size r.sizes.y) (is_zero r.sizes.z) e in
+    let h = and_parts (eqb r.kind 2 && is_size r.sizes.x) (is_size r.sizes.y) d.0 in
+    let kind = and_parts (eqb r.kind 2) (is_size r.sizes.x) h.0 in
     let u = lt_z (pos 0) f.z in
     let x = r.sizes.x *ℤ pos (nat_abs f.x) in
     let y = r.sizes.y *ℤ f.z in
-    ap (λ (o : Option ℤ). joint r.kind o (stretch r.sizes.y f.z) (Some (pos 0))) (nonzero r.sizes.x (nat_abs f.x))
-    ∙ joint_when r.kind x y (pos 0) (is_size x) (u && is_size y) true
+    joint_when r.kind x y (pos 0) (is_size x) (is_size y) true
     ∙ ap (λ (t : Bool). when t (larger_cylinder r f))
-    (subst (λ (m : Bool). (is_size x && (u && is_size y) && true) ≡ (m && u && (eqb r.kind 2 && is_size x && is_size y && true))) (sym g)
-    (subst (λ (k : Bool). (is_size x && (u && is_size y) && true) ≡ (true && u && (k && is_size x && is_size y && true))) (sym (cylinder_kind r e))
+    (and_same (and_same refl (factor_test r.sizes.y f.z (positive_size r.sizes.y h.1))) refl
+    ∙ subst (λ (m : Bool). (is_size x && (u && is_size y) && true) ≡ (m && u && (eqb r.kind 2 && is_size x && is_size y && true))) (sym g)
+    (subst (λ (k : Bool). (is_size x && (u && is_size y) && true) ≡ (true && u && (k && is_size x && is_size y && true))) (sym kind.0)
     (cylinder_tests (is_size x) u (is_size y))))

@@ -1,5 +1,5 @@
 // The standard family: boxes and upright cylinders.
-ghost use Rattle.std.specs.Prelude.{◌≡◌, true, ◌&&◌, ◌≤◌, ◌^◌, pos, ◌*ℤ◌, int_lt, unsigned_abs};
+ghost use Rattle.std.specs.Prelude.{◌≡◌, true};
 ghost use Rattle.family.specs.Standard.{standard, is_size, is_box, is_cylinder, along, over_base, in_box, in_circle, in_cylinder, holds, when, joint, box_absorbed, cylinder_absorbed};
 ghost use Rattle.family.specs.StandardLaws.{standard_laws};
 
@@ -79,17 +79,12 @@ fn holds(primitive: &Primitive, at: Reachable) -> bool
     }
 }
 
-/// A size times a factor, if the factor is positive and the product is a size too.
-fn stretched(size: i64, factor: i128) -> Option<i64>
-    requires { unsigned_abs factor ≤ 2 ^ 63 }
-    ensures { result ≡ when (int_lt (pos 0) factor && is_size (size *ℤ factor)) (size *ℤ factor) }
+/// The value, if it is a size.
+fn as_size(value: i128) -> Option<i64>
+    ensures { result ≡ when (is_size value) value }
 {
-    let larger = i128::from(size) * factor;
-    if factor > 0 && larger >= 1 && larger <= i128::from(LARGEST) {
-        Some(larger as i64)
-    } else {
-        None
-    }
+    let size = i64::try_from(value).ok()?;
+    if is_size(size) { Some(size) } else { None }
 }
 
 fn joined(kind: u16, x: Option<i64>, y: Option<i64>, z: Option<i64>) -> Option<Primitive>
@@ -103,6 +98,7 @@ fn joined(kind: u16, x: Option<i64>, y: Option<i64>, z: Option<i64>) -> Option<P
     Some(Primitive { kind, sizes })
 }
 
+// No factor but a positive one makes a size of a size, so none is tested for its sign.
 fn larger_box(primitive: &Primitive, factors: Triple) -> Option<Primitive>
     requires { is_box primitive.now ≡ true }
     ensures { result ≡ box_absorbed primitive.now factors }
@@ -110,9 +106,9 @@ fn larger_box(primitive: &Primitive, factors: Triple) -> Option<Primitive>
     let sizes = primitive.sizes;
     joined(
         primitive.kind,
-        stretched(sizes.x, i128::from(factors.x)),
-        stretched(sizes.y, i128::from(factors.y)),
-        stretched(sizes.z, i128::from(factors.z)),
+        as_size(product(sizes.x, factors.x)),
+        as_size(product(sizes.y, factors.y)),
+        as_size(product(sizes.z, factors.z)),
     )
 }
 
@@ -124,14 +120,16 @@ fn larger_cylinder(primitive: &Primitive, factors: Triple) -> Option<Primitive>
     if across != factors.y.unsigned_abs() {
         return None;
     }
+    let sizes = primitive.sizes;
     joined(
         primitive.kind,
-        stretched(primitive.sizes.x, i128::from(across)),
-        stretched(primitive.sizes.y, i128::from(factors.z)),
+        as_size(i128::from(sizes.x) * i128::from(across)),
+        as_size(product(sizes.y, factors.z)),
         Some(0),
     )
 }
 
+// Two tests in a row, since an enum of the two shapes would only be made to be matched at once.
 impl Family for Standard {
     ghost meaning = { λ _. standard };
 
