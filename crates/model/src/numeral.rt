@@ -2,8 +2,9 @@
 ghost use Rattle.std.specs.Prelude.{◌≡◌};
 ghost use Rattle.model.specs.Placements.{linear, at as at_index};
 ghost use Rattle.model.specs.Axes.{axes, exact};
+ghost use Rattle.model.specs.Legality.{beyond, some_axis};
 
-use super::node::Linear;
+use super::node::{Linear, Triple};
 use super::wide::{Numeral, Wide};
 
 impl Numeral {
@@ -47,5 +48,16 @@ impl Linear {
             y: y.at(index),
             z: z.at(index),
         }
+    }
+}
+
+impl Triple {
+    /// Whether one of its numbers is farther from 0 than `most`.
+    pub fn is_beyond(self, most: u32) -> bool
+        ensures { result ≡ some_axis (beyond most) self }
+    {
+        let most = u64::from(most);
+        let Triple { x, y, z } = self;
+        most < x.unsigned_abs() || most < y.unsigned_abs() || most < z.unsigned_abs()
     }
 }

@@ -12,6 +12,7 @@ pub struct Point {
 
 #[derive(Clone, Copy, PartialEq, Eq)]
 pub struct Primitive {
+    /// A number, and no enum: which kinds there are is for a family to say.
     pub kind: u16,
     pub sizes: Triple,
 }

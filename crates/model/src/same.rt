@@ -6,7 +6,7 @@ use super::node::Node;
 use super::table::Table;
 
 impl Node {
-    /// Whether two nodes are the same, number for number.
+    /// Whether two nodes are the same, number for number: what `==` decides, as a promise.
     pub fn same(self, other: Node) -> bool
         ensures { Decides result (self ≡ other) }
     {

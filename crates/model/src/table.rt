@@ -11,8 +11,8 @@ pub struct Draft {
     ghost room: { 640 ≤ vec_capacity nodes },
 }
 
-/// One program, as the list of its nodes in reading order, and room for the next one: all memory
-/// is asked for when the table is made.
+/// One program, as the list of its nodes in reading order, and room for the next one. All memory is
+/// asked for when the table is made, so that a program is no tree of boxes.
 #[derive(Drop)]
 pub struct Table {
     pub nodes: Vec<Node>,

@@ -12,21 +12,13 @@ use model::{Point, Triple};
 use program::Part;
 
 /// The largest coordinate of a point that is probed, in micrometres.
-const FARTHEST: u64 = 1_000_000;
-
-// Whether some coordinate is too large.
-fn is_far(at: Triple) -> bool
-    ensures { result ≡ far at }
-{
-    let Triple { x, y, z } = at;
-    FARTHEST < x.unsigned_abs() || FARTHEST < y.unsigned_abs() || FARTHEST < z.unsigned_abs()
-}
+const FARTHEST: u32 = 1_000_000;
 
 // A point of whole micrometres, if it is not too far. Every such point is in reach.
 fn near(at: Triple) -> Option<Reachable>
     ensures { result ≡ cond (far at) None (Some (point at)) }
 {
-    if is_far(at) {
+    if at.is_beyond(FARTHEST) {
         return None;
     }
     let Triple { x, y, z } = at;

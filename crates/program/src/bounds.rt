@@ -65,15 +65,6 @@ fn turns_around(around: Option<i64>) -> u64
     }
 }
 
-// Three tests: `any` over an array of the three is no shorter, and its answer needs a proof by hand.
-fn is_far(v: Triple) -> bool
-    ensures { result ≡ some_axis (beyond 1000000) v }
-{
-    is_beyond(FARTHEST, v.x as i128)
-        || is_beyond(FARTHEST, v.y as i128)
-        || is_beyond(FARTHEST, v.z as i128)
-}
-
 fn is_sloped(v: Linear) -> bool
     ensures { result ≡ some_axis nonzero v.slope }
 {
@@ -100,7 +91,7 @@ fn is_unfit_somewhere(placement: Placement, v: Linear, count: u64) -> bool
 pub(crate) fn is_wild(placement: Placement, context: Context, v: Linear) -> bool
     ensures { result ≡ wild placement context v }
 {
-    if is_far(v.constant) || is_far(v.slope) {
+    if v.constant.is_beyond(FARTHEST) || v.slope.is_beyond(FARTHEST) {
         return true;
     }
     is_unfit_somewhere(placement, v, turns_around(context.around))

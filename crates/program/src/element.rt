@@ -117,7 +117,8 @@ impl Layout {
         }
     }
 
-    /// The element `k` of a list of vectors; zeros where no such list stands.
+    /// The element `k` of a list of vectors; zeros where no such list stands, since no caller would
+    /// look at a None.
     pub fn vector_item(&self, list: Term, k: u128) -> Wide
         ensures { (x : Triple) → Holds programs (nodes_of self.now) list k vector x → exact result ≡ x }
     {

@@ -28,6 +28,8 @@ fn in_number(b: u8) -> bool
     b.is_ascii_digit() || matches!(b, b'+' | b'-' | b'i')
 }
 
+// Four functions, and not one that takes the test: its contract would be longer than the chains.
+
 /// How many bytes at the front are separators.
 pub(crate) fn separators_len(text: &[u8]) -> usize
     ensures len { result ≡ prefix_len is_sep text.now }

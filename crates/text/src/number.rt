@@ -15,7 +15,8 @@ fn all_digits(run: &[u8]) -> bool
     run.iter().all(u8::is_ascii_digit)
 }
 
-// Whether they are one to seven digits, the first not 0.
+// Whether they are one to seven digits, the first not 0. A catalogue's numbers go by another rule,
+// so `rows` has its own.
 fn is_natural(run: &[u8]) -> bool
     ensures { result ≡ natural run.now }
 {
