@@ -37,8 +37,7 @@ placements a b e = cc
 
 placement_self : (a : Placement) → (placement.ghosts).eq a a ≡ true
 placement_self p.Translate = refl
-placement_self p.Scale = refl
-placement_self p.Rotate = refl
+placement_self _ = refl
 
 operators : (a b : Operator) → (operator.ghosts).eq a b ≡ true → a ≡ b
 operators o.Union o.Union e = refl
@@ -48,8 +47,7 @@ operators a b e = cc
 
 operator_self : (a : Operator) → (operator.ghosts).eq a a ≡ true
 operator_self o.Union = refl
-operator_self o.Diff = refl
-operator_self o.Inter = refl
+operator_self _ = refl
 
 sized : (k m : ℤ) (a b : Linear) → Decides ((node.ghosts).eq (v.Primitive k a) (v.Primitive m b)) ((k ≡ m) × (a ≡ b))
 sized k m a b = Decides-and _ _ (Decides-int_eq k m) (linears a b)
@@ -75,20 +73,18 @@ same (v.Number i) (v.Number j) e = ap v.Number ((Decides-eqb i j).0 e)
 same a b e = cc
 
 self : (a : Node) → (node.ghosts).eq a a ≡ true
-self v.Empty = refl
 self (v.Primitive k a) = (sized k k a a).1 (refl, refl)
 self (v.Place t a) = (placed t t a a).1 (refl, refl)
 self (v.Join o) = operator_self o
-self v.Fold = refl
 self (v.Vector a) = (linears a a).1 refl
 self (v.List n) = (Decides-eqb n n).1 refl
 self (v.Repeat n) = (Decides-int_eq n n).1 refl
 self (v.Tabulate n) = (Decides-int_eq n n).1 refl
-self v.Concat = refl
 self (v.Sort n) = (Decides-eqb n n).1 refl
 self (v.Unsort n) = (Decides-eqb n n).1 refl
 self (v.Map2 t) = placement_self t
 self (v.Number j) = (Decides-eqb j j).1 refl
+self _ = refl
 
 pub decided : (a b : Node) → Decides ((node.ghosts).eq a b) (a ≡ b)
 decided = decides_by (node.ghosts).eq same self

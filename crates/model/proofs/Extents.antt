@@ -10,20 +10,10 @@ use Rattle.model.specs.Depths.{TermExtent, PartsExtent}
 
 -- a head has as many parts as its node
 pub arity_parts : {s : Sort} (h : Head s) → length (arity h) ≡ parts (node_of h)
-arity_parts S.empty = refl
-arity_parts (S.prim k a) = refl
-arity_parts (S.place t a) = refl
-arity_parts (S.join o) = refl
-arity_parts S.fold = refl
-arity_parts (S.vec a) = refl
 arity_parts (S.list {k} n) = length-replicate n (one k)
-arity_parts (S.repeat n) = refl
-arity_parts (S.tab n) = refl
-arity_parts S.concat = refl
 arity_parts (S.sort {k} n) = length-append (replicate n num) (many k ∷ []) ∙ ap (λ m. m + 1) (length-replicate n num)
 arity_parts (S.unsort {k} n) = length-append (replicate n num) (many k ∷ []) ∙ ap (λ m. m + 1) (length-replicate n num)
-arity_parts (S.map2 t) = refl
-arity_parts (S.number j) = refl
+arity_parts _ = refl
 
 -- each part has a node of its own
 pub parts_le : {ss : List Sort} (es : Exprs ss) → length ss ≤ length (flattens es)
@@ -36,7 +26,7 @@ pub split_cons : {n m : Node} {xs ys : List Node} → n ∷ xs ≡ m ∷ ys → 
 split_cons e = (cc, cc)
 
 pub some≢none : {n : Node} {xs : List Node} → [] ≡ n ∷ xs → ⊥
-some≢none e = let z : ◌≡◌ {A = ℕ} 0 1 = cc in omega arith
+some≢none e = cc
 
 -- as many parts as a node asks for, though the code's count is cut off at the greatest number
 pub asked : (nodes : List Node) (n : Node) (place k : ℕ) {s : Sort} (h : Head s) (es : Exprs (arity h)) (rest : List Node) → length nodes < 2 ^ 63

@@ -155,20 +155,9 @@ sum_unsorted d p l o =
 
 -- ---- a program without Sort and Unsort has no order that could be wrong
 textual_proper : {s : Sort} (h : Head s) (es : Exprs (arity h)) → textual_head h ≡ true → Proper h es
-textual_proper empty es t = tt
-textual_proper (prim k v) es t = tt
-textual_proper (place u v) es t = tt
-textual_proper (join o) es t = tt
-textual_proper fold es t = tt
-textual_proper (vec v) es t = tt
-textual_proper (list n) es t = tt
-textual_proper (repeat n) es t = tt
-textual_proper (tab n) es t = tt
-textual_proper concat es t = tt
-textual_proper (sort n) es t = absurd (search rules)
-textual_proper (unsort n) es t = absurd (search rules)
-textual_proper (map2 u) es t = tt
-textual_proper (number j) es t = tt
+textual_proper (sort n) es t = cc
+textual_proper (unsort n) es t = cc
+textual_proper _ es t = tt
 
 mutual
   unfolding textual textuals Ordered AllOrdered

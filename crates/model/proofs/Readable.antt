@@ -11,30 +11,15 @@ use Rattle.model.specs.Held.{Headed, head_at}
 
 pub headed : {s : Sort} (h : Head s) → head_at (node_of h) s ≡ some (record { head = h; is = refl })
 headed S.empty = refl
-headed (S.prim k a) = refl
-headed (S.place t a) = refl
-headed (S.join o) = refl
-headed S.fold = refl
-headed (S.vec a) = refl
-headed (S.list n) = refl
-headed (S.repeat n) = refl
-headed (S.tab n) = refl
-headed S.concat = refl
-headed (S.sort n) = refl
-headed (S.unsort n) = refl
-headed (S.map2 t) = refl
-headed (S.number j) = refl
+headed _ = refl
 
 -- the head alone, so that heads of equal nodes can be compared
 abbrev bare : {x : Node} {s : Sort} → Option (Headed x s) → Option (Head s)
 bare Option.none = Option.none
 bare (some h) = some h.head
 
-some_same : {A : Type 0} {a b : A} → some a ≡ some b → a ≡ b
-some_same q = cc
-
 pub same_head : {s : Sort} (h h' : Head s) → node_of h ≡ node_of h' → h ≡ h'
-same_head {s} h h' q = some_same (sym (ap bare (headed h)) ∙ ap (λ x. bare (head_at x s)) q ∙ ap bare (headed h'))
+same_head {s} h h' q = let p : some h ≡ some h' = sym (ap bare (headed h)) ∙ ap (λ x. bare (head_at x s)) q ∙ ap bare (headed h') in cc
 
 same_node : {s : Sort} (h h' : Head s) → h ≡ h' → (es : Exprs (arity h)) (es' : Exprs (arity h')) (r r' : List Node)
     → ((f : Exprs (arity h)) → flattens es ++ r ≡ flattens f ++ r' → (es ≡ f) × (r ≡ r'))

@@ -62,22 +62,7 @@ front pre (x ∷ xs) rest h = get_or_at pre x (xs ++ rest) 0 (length pre) refl
 -- a word's bytes go on as a word, and its first is a letter
 word_bytes : (x : Word) → (prefix_len in_word (spelling x) ≡ length (spelling x)) × (is_ascii_alphabetic (get_or (spelling x) 0 0) ≡ true) × (0 < length (spelling x))
 word_bytes w.Empty = (refl, refl, omega arith)
-word_bytes w.Prim = (refl, refl, omega arith)
-word_bytes w.Translate = (refl, refl, omega arith)
-word_bytes w.Scale = (refl, refl, omega arith)
-word_bytes w.Rotate = (refl, refl, omega arith)
-word_bytes w.Union = (refl, refl, omega arith)
-word_bytes w.Diff = (refl, refl, omega arith)
-word_bytes w.Inter = (refl, refl, omega arith)
-word_bytes w.Fold = (refl, refl, omega arith)
-word_bytes w.List = (refl, refl, omega arith)
-word_bytes w.Repeat = (refl, refl, omega arith)
-word_bytes w.Tabulate = (refl, refl, omega arith)
-word_bytes w.Concat = (refl, refl, omega arith)
-word_bytes w.Sort = (refl, refl, omega arith)
-word_bytes w.Unsort = (refl, refl, omega arith)
-word_bytes w.Map2 = (refl, refl, omega arith)
-word_bytes w.Index = (refl, refl, omega arith)
+word_bytes _ = (refl, refl, omega arith)
 
 -- bytes that go on as a number, the first of which starts one
 abbrev Digital : List ℕ → Type 0
@@ -134,10 +119,7 @@ begins : (t : Token) → SmallToken t → (0 < length (spell_token t)) × (is_se
 begins (word x) h = let b = word_bytes x in (b.2, letter_apart (get_or (spelling x) 0 0) b.1)
 begins (number a c) h = let d = digital_numeral a c h.0 h.1 in (d.0, number_apart (get_or (numeral a c) 0 0) d.1)
 begins (mark Open) h = (omega arith, refl)
-begins (mark Close) h = (omega arith, refl)
-begins (mark Left) h = (omega arith, refl)
-begins (mark Right) h = (omega arith, refl)
-begins (mark Comma) h = (omega arith, refl)
+begins (mark _) h = (omega arith, refl)
 
 -- a token that stands at byte s with its own bytes
 abbrev here : Token → ℕ → Span
@@ -170,10 +152,7 @@ token_mark m pre rest =
   where
     known : (t : List ℕ) (s : ℕ) (m : Mark) → cond (is_ascii_alphabetic (mark_byte m)) (word_at t s) (cond (starts_number (mark_byte m)) (number_at t s) (stands (option_map mark (mark_of (mark_byte m))) s 1)) ≡ got (mark m) (record { at = s; len = 1 })
     known t s Open = refl
-    known t s Close = refl
-    known t s Left = refl
-    known t s Right = refl
-    known t s Comma = refl
+    known t s _ = refl
 
 -- no run goes on into what is written after a word or a number
 stops : (ts : List Token) → Stops in_word (spells false ts) × Stops in_number (spells false ts)
@@ -181,10 +160,7 @@ stops [] = (tt, tt)
 stops (word x ∷ ts) = (refl, refl)
 stops (number a c ∷ ts) = (refl, refl)
 stops (mark Open ∷ ts) = (refl, refl)
-stops (mark Close ∷ ts) = (refl, refl)
-stops (mark Left ∷ ts) = (refl, refl)
-stops (mark Right ∷ ts) = (refl, refl)
-stops (mark Comma ∷ ts) = (refl, refl)
+stops (mark _ ∷ ts) = (refl, refl)
 
 token_back : (t : Token) (ts : List Token) (pre : List ℕ) → SmallToken t → token_at (pre ++ (spell_token t ++ spells (tight_after t) ts)) (length pre) ≡ got t (here t (length pre))
 token_back (word x) ts pre h = token_word x pre (spells false ts) (stops ts).0

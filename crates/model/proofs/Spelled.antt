@@ -56,19 +56,7 @@ record Own {s : Sort} (h : Head s) : Type 0 where
 
 own : {s : Sort} (h : Head s) → Own h
 own S.empty = record { named = refl; begins = refl; opens = λ b. refl; closes = λ us. refl }
-own (S.prim k a) = record { named = refl; begins = refl; opens = λ b. refl; closes = λ us. refl }
-own (S.place t a) = record { named = refl; begins = refl; opens = λ b. refl; closes = λ us. refl }
-own (S.join o) = record { named = refl; begins = refl; opens = λ b. refl; closes = λ us. refl }
-own S.fold = record { named = refl; begins = refl; opens = λ b. refl; closes = λ us. refl }
-own (S.vec a) = record { named = refl; begins = refl; opens = λ b. refl; closes = λ us. refl }
-own (S.list n) = record { named = refl; begins = refl; opens = λ b. refl; closes = λ us. refl }
-own (S.repeat n) = record { named = refl; begins = refl; opens = λ b. refl; closes = λ us. refl }
-own (S.tab n) = record { named = refl; begins = refl; opens = λ b. refl; closes = λ us. refl }
-own S.concat = record { named = refl; begins = refl; opens = λ b. refl; closes = λ us. refl }
-own (S.sort n) = record { named = refl; begins = refl; opens = λ b. refl; closes = λ us. refl }
-own (S.unsort n) = record { named = refl; begins = refl; opens = λ b. refl; closes = λ us. refl }
-own (S.map2 t) = record { named = refl; begins = refl; opens = λ b. refl; closes = λ us. refl }
-own (S.number j) = record { named = refl; begins = refl; opens = λ b. refl; closes = λ us. refl }
+own _ = record { named = refl; begins = refl; opens = λ b. refl; closes = λ us. refl }
 
 opening_apart : (b : Bool) {s : Sort} (h : Head s) → spells b (opening h) ≡ gap b ++ opening_text (node_of h)
 opening_apart b h = apart b (opening h) (own h).begins ∙ ap (λ l. gap b ++ l) (own h).named
@@ -180,30 +168,23 @@ bracket_le a h =
 
 name_le : (t : Placement) → length (spelling (placement_word t)) ≤ 9
 name_le p.Translate = omega arith
-name_le p.Scale = omega arith
-name_le p.Rotate = omega arith
+name_le _ = omega arith
 
 word_le : (o : Operator) → length (spelling (operator_word o)) ≤ 5
 word_le o.Union = omega arith
-word_le o.Diff = omega arith
-word_le o.Inter = omega arith
+word_le _ = omega arith
 
 -- no node takes more than 72 bytes
 own_le : (n : Node) → SevenNode n → own_length n ≤ 72
-own_le v.Empty h = omega arith
 own_le (v.Primitive k a) h = let b = bracket_le a h.1 in let d = signed_le k h.0 in let l = length-append (signed_decimal k) (32 ∷ spells true (bracket a)) in omega arith
 own_le (v.Place t a) h = let b = bracket_le a h in let d = name_le t in let l = length-append (spelling (placement_word t)) (32 ∷ spells true (bracket a)) in omega arith
 own_le (v.Join o) h = let d = word_le o in simp length-append (omega arith)
-own_le v.Fold h = omega arith
 own_le (v.Vector a) h = let b = bracket_le a h in omega arith
-own_le (v.List n) h = omega arith
 own_le (v.Repeat n) h = let d = signed_le n h in simp length-append (omega arith)
 own_le (v.Tabulate n) h = let d = signed_le n h in simp length-append (omega arith)
-own_le v.Concat h = omega arith
-own_le (v.Sort n) h = omega arith
-own_le (v.Unsort n) h = omega arith
 own_le (v.Map2 t) h = let d = name_le t in simp length-append (omega arith)
 own_le (v.Number j) h = let d = decimal_le j h in simp length-append (omega arith)
+own_le _ h = omega arith
 
 pub short_text : ShortText
 short_text s e few seven =
