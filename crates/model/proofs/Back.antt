@@ -56,36 +56,25 @@ inside (S.map2 t) d gs = wanted (many vector ∷ many solid ∷ []) d (mark Clos
 inside (S.number j) d gs = gs
 
 opened : {s : Sort} (h : Head s) → textual_head h ≡ true → (sp : ℕ → Span) (i d n : ℕ) (f : Feed) (gs : List Goal) → run (fed sp i (opening h) f) (wanted (s ∷ []) d gs) n ≡ cond (room d n) (run f (inside h (d - 1) gs) (n + 1)) (refused (TooLarge (sp i)))
-opened S.empty x sp i d n f gs = refl
-opened (S.prim k a) x sp i d n f gs = refl
 opened (S.place by.Translate a) x sp i d n f gs = refl
 opened (S.place by.Scale a) x sp i d n f gs = refl
 opened (S.place by.Rotate a) x sp i d n f gs = refl
 opened (S.join op.Union) x sp i d n f gs = refl
 opened (S.join op.Diff) x sp i d n f gs = refl
 opened (S.join op.Inter) x sp i d n f gs = refl
-opened S.fold x sp i d n f gs = refl
-opened (S.vec a) x sp i d n f gs = refl
-opened (S.list n) x sp i d m f gs = refl
-opened (S.repeat n) x sp i d m f gs = refl
-opened (S.tab n) x sp i d m f gs = refl
-opened S.concat x sp i d n f gs = refl
-opened (S.sort n) x sp i d m f gs = clash (cc)
-opened (S.unsort n) x sp i d m f gs = clash (cc)
+opened (S.sort n) x sp i d m f gs = cc
+opened (S.unsort n) x sp i d m f gs = cc
 opened (S.map2 by.Translate) x sp i d n f gs = refl
 opened (S.map2 by.Scale) x sp i d n f gs = refl
 opened (S.map2 by.Rotate) x sp i d n f gs = refl
-opened (S.number j) x sp i d n f gs = clash (cc)
+opened (S.number j) x sp i d n f gs = cc
+opened _ x sp i d n f gs = refl
 
 -- an element is read alike where more elements may follow
 among : {k : Kind} (e : Expr (one k)) (sp : ℕ → Span) (i d n : ℕ) (f : Feed) (gs : List Goal) → run (fed sp i (tokens e) f) (elements k d ∷ gs) n ≡ run (fed sp i (tokens e) f) (element k d ∷ elements k d ∷ gs) n
 unfolding tokens row
 among (node S.empty es) sp i d n f gs = refl
-among (node (S.prim k a) es) sp i d n f gs = refl
-among (node (S.place t a) es) sp i d n f gs = refl
-among (node (S.join o) es) sp i d n f gs = refl
-among (node S.fold es) sp i d n f gs = refl
-among (node (S.vec a) es) sp i d n f gs = refl
+among (node _ es) sp i d n f gs = refl
 
 -- the run over an expression's tokens is the walk over its nodes
 abbrev Exact : {s : Sort} → Expr s → Type 0
@@ -147,10 +136,10 @@ module _ (m : ℕ) (ih : (s : Sort) (e : Expr s) → size e ≤ m → textual e 
   after_opening (S.repeat {k} c) es l z x sp i d n f gs = shut (one k ∷ []) es l x sp i d n f gs
   after_opening (S.tab {k} c) es l z x sp i d n f gs = shut (one k ∷ []) es l x sp i d n f gs
   after_opening (S.concat {k}) es l z x sp i d n f gs = shut (many k ∷ many k ∷ []) es l x sp i d n f gs
-  after_opening (S.sort c) es l z x sp i d n f gs = clash (cc)
-  after_opening (S.unsort c) es l z x sp i d n f gs = clash (cc)
+  after_opening (S.sort c) es l z x sp i d n f gs = cc
+  after_opening (S.unsort c) es l z x sp i d n f gs = cc
   after_opening (S.map2 t) es l z x sp i d n f gs = shut (many vector ∷ many solid ∷ []) es l x sp i d n f gs
-  after_opening (S.number j) es l z x sp i d n f gs = clash (cc)
+  after_opening (S.number j) es l z x sp i d n f gs = cc
 
 exact_upto : (m : ℕ) (s : Sort) (e : Expr s) → size e ≤ m → textual e ≡ true → Exact e
 unfolding size sizes tokens row firsts firsts_in
@@ -201,7 +190,7 @@ has_room d n x y = and_from (ltb 0 d) (ltb n 640) (lt-ltb 0 d x) (lt-ltb n 640 y
 
 cond_none : (b : Bool) (o : Option ℕ) (j : ℕ) → cond b o (some j) ≡ O.none → (b ≡ true) × (o ≡ O.none)
 cond_none true o j e = (refl, e)
-cond_none false o j e = clash (cc)
+cond_none false o j e = cc
 
 none_append : (n : ℕ) (ps qs : List (ℕ × ℕ)) → first_over n ps ≡ O.none → first_over (n + length ps) qs ≡ O.none → first_over n (ps ++ qs) ≡ O.none
 none_append n [] qs x y = ap (λ m. first_over m qs) (omega arith) ∙ y
@@ -278,7 +267,7 @@ reads_back e f x l d q c = outcome e f x q c ∙ ap (λ o. ended (spans f) o (wh
 
 ended_whole : (sp : ℕ → Span) (o : Option ℕ) (k n : ℕ) → ended sp o (whole k) ≡ whole n → (o ≡ O.none) × (n ≡ k)
 ended_whole sp O.none k n q = (refl, cc)
-ended_whole sp (some j) k n q = clash (cc)
+ended_whole sp (some j) k n q = cc
 
 pub within : Within
 within f n e p q =

@@ -46,7 +46,7 @@ Told f gs n (refused (NoSolid s)) = (ts : List (Token × Span)) × (f' : Feed) �
 Told f gs n (refused (TooLarge s)) = (ts : List (Token × Span)) × (t : Token) × (f' : Feed) × (f ≡ before ts (token t s f')) × Begun gs (alone ts ++ (t ∷ [])) × Stays (alone ts) t gs n
 
 not_nil : {t : Token} {us : List Token} → [] ≡ t ∷ us → ⊥
-not_nil e = clash (cc)
+not_nil e = cc
 
 -- the first token of what goals stand for moves them on
 onward : (g : Goal) (gs : List Goal) (t : Token) (us : List Token) → GenAll (g ∷ gs) (t ∷ us) → After (move g gs t) us

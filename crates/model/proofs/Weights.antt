@@ -80,15 +80,12 @@ row_vectors (suc n) (more e es) d p = let h = row_vectors n es d.1 p.1 in omega 
 
 -- ---- what a kept law says of a node and its parts
 pub kept : (b : Bool) (at : ℕ) (o : Option ℕ) → cond b (Some at) o ≡ None → (b ≡ false) × (o ≡ None)
-kept true at o p = absurd (never p)
-  where
-    never : Some at ≡ None → ⊥
-    never e = let z : ◌≡◌ {A = ℕ} 0 1 = cc in omega arith
+kept true at o p = cc
 kept false at o p = (refl, p)
 
 pub neither : (a b : Option ℕ) → option_or a b ≡ None → (a ≡ None) × (b ≡ None)
 neither None b p = (refl, p)
-neither (Some n) b p = absurd (let z : ◌≡◌ {A = ℕ} 0 1 = cc in omega arith)
+neither (Some n) b p = cc
 
 clash : (t : Bool) → t ≡ false → not t ≡ false → ⊥
 clash true e f = search rules
