@@ -6,6 +6,7 @@ use Rattle.std.specs.Char.{is_ascii_alphabetic, is_ascii_digit}
 use Rattle.std.specs.List.{prefix_len}
 use Rattle.std.proofs.lemmas.List.{length-take-le}
 use Rattle.std.proofs.lemmas.List.Sums.{prefix_len-drop_yes, prefix_len-le-length}
+use Rattle.std.proofs.lemmas.Bool.Decides.{nat_tests}
 use Rattle.std.proofs.lemmas.Bool.{or_left, cond_both, cond-true, cond-false, le-leb, lt-leb}
 use Rattle.model.specs.declared.refusal.Span.{Span}
 use Rattle.model.specs.declared.word.Word.{Word}
@@ -37,13 +38,7 @@ stands_ahead (Some x) s m n h w = (omega arith, w)
 stands_ahead None s m n h w = tt
 
 starts_in : (b : ℕ) → starts_number b ≡ true → in_number b ≡ true
-starts_in b = go (is_ascii_digit b) (eqb b 45) (eqb b 43) (eqb b 105)
-  where
-    go : (d m p i : Bool) → (d || m) ≡ true → (d || (p || (m || i))) ≡ true
-    go true m p i e = refl
-    go false true true i e = refl
-    go false true false i e = refl
-    go false false p i e = absurd (let z : ◌≡◌ {A = ℕ} 0 1 = cc in omega arith)
+starts_in b e = grind (arith, nat_tests)
 
 -- a token takes a byte, and ends within the text
 pub token_ahead : (t : List ℕ) (s : ℕ) → s < length t → Ahead s (length t) (token_at t s)

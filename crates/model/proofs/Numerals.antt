@@ -8,7 +8,7 @@ use Rattle.std.specs.Fmt.{signed_decimal}
 use Rattle.std.specs.List.{prefix_len}
 use Rattle.std.specs.Str.{bytes_eq}
 use Rattle.std.proofs.lemmas.Fmt.{decimal_is_IsNumeral, decimal_digit, length-decimal-le, first_decimal}
-use Rattle.std.proofs.lemmas.List.{get_or_at, get_or_push, get_or_append_left, length_push, take_at, drop_at, length-append}
+use Rattle.std.proofs.lemmas.List.{get_or-append_right, get_or_at, get_or_push, get_or_append_left, length_push, take_at, drop_at, length-append}
 use Rattle.std.proofs.lemmas.Str.Parse.{digit_at, digit_from_value}
 use Rattle.std.proofs.lemmas.Bool.{cond-true, cond-false, ne_eqb, le-leb, and_from, and_left}
 use Rattle.model.specs.Bytes.{natural_of, minus, amount_of, change_of, cut, slope_of, plain_of, number_of, change, is_zero, Small, NumberBack}
@@ -51,25 +51,21 @@ plain_amount run h = cond-false _ _ _ (other run h)
     other [] h = refl
     other (x ∷ xs) h = and_left (eqb x 48) (bytes_eq xs []) (ne_eqb x 48 h)
 
-last_cons : (b : ℕ) (ds : List ℕ) → 0 < length ds → get_or (b ∷ ds) (length (b ∷ ds) - 1) 0 ≡ get_or ds (length ds - 1) 0
-last_cons b [] h = absurd (omega arith)
-last_cons b (x ∷ xs) h =
-    let long : length (b ∷ x ∷ xs) - 1 ≡ suc (length xs) = omega arith in
-    let short : length (x ∷ xs) - 1 ≡ length xs = omega arith in
-    ap (λ n. get_or (b ∷ x ∷ xs) n 0) long ∙ sym (ap (λ n. get_or (x ∷ xs) n 0) short)
-
 last_digit : (n : ℕ) → Size n → get_or (decimal n) (length (decimal n) - 1) 0 ≡ 105 → ⊥
 last_digit n h e =
     let some = some_digit n h in
     let d = digit_at (decimal n) (length (decimal n) - 1) (digits_of n h) (omega arith) in
     omega (arith, d.1)
 
+last_after_minus : (ds : List ℕ) → 0 < length ds → get_or ds (length ds - 1) 0 ≡ get_or (45 ∷ ds) (length (45 ∷ ds) - 1) 0
+last_after_minus ds h = ap (λ n. get_or ds n 0) (omega arith) ∙ sym (get_or-append_right (45 ∷ []) ds 1 (length (45 ∷ ds) - 1) 0 refl (omega arith))
+
 plain_signed : (z : ℤ) → Size (nat_abs z) → number_of (signed_decimal z) ≡ Some (z, pos 0)
 plain_signed (pos n) h =
     let first = first_decimal n h.0 (omega (arith, h.1)) in
     number_plain (decimal n) (last_digit n h) ∙ ap (option_map (λ a. (a, pos 0))) (plain_amount (decimal n) (λ e. omega arith) ∙ amount_signed (pos n) h)
 plain_signed (negsuc n) h =
-    number_plain (signed_decimal (negsuc n)) (λ e. last_digit (suc n) h (sym (last_cons 45 (decimal (suc n)) (some_digit (suc n) h)) ∙ e))
+    number_plain (signed_decimal (negsuc n)) (λ e. last_digit (suc n) h (last_after_minus (decimal (suc n)) (some_digit (suc n) h) ∙ e))
     ∙ ap (option_map (λ a. (a, pos 0))) (plain_amount (signed_decimal (negsuc n)) (λ e. omega arith) ∙ amount_signed (negsuc n) h)
 
 plain_zero : number_of (signed_decimal (pos 0)) ≡ Some (pos 0, pos 0)

@@ -4,6 +4,7 @@ use Rattle.std.specs.Fmt.{signed_decimal}
 use Rattle.std.proofs.lemmas.Fmt.{length-decimal-le}
 use Rattle.std.proofs.ByRecursion.{All-weaker, sum_by_le}
 use Rattle.std.proofs.lemmas.Bool.{false≢true, not-true, cond_both}
+use Rattle.std.proofs.Math.Bool.{or-false}
 use Rattle.std.proofs.lemmas.List.Sums.{sum_by-cons, sum_by-append}
 use Rattle.model.specs.declared.node.Placement.{Placement}
 use Rattle.model.specs.declared.node.Placement.TheVariants as p
@@ -34,10 +35,6 @@ spells_append b (t ∷ ts) us =
     ∙ ap (λ l. g ++ l) (sym (append_assoc (spell_token t) rest (spells (close_after (tight_after t) ts) us)))
     ∙ sym (append_assoc g (spell_token t ++ rest) (spells (close_after (tight_after t) ts) us))
 
-or_false : (b : Bool) → (b || false) ≡ b
-or_false true = refl
-or_false false = refl
-
 -- the first token does not stand close to what is before it
 abbrev begins_apart : List Token → Bool
 begins_apart [] = false
@@ -45,7 +42,7 @@ begins_apart (t ∷ ts) = not (tight_before t)
 
 apart : (b : Bool) (ts : List Token) → begins_apart ts ≡ true → spells b ts ≡ gap b ++ spells true ts
 apart b [] e = absurd (false≢true e)
-apart b (t ∷ ts) e = ap (λ x. gap x ++ (spell_token t ++ spells (tight_after t) ts)) (ap (λ x. b || x) (not-true (tight_before t) e) ∙ or_false b)
+apart b (t ∷ ts) e = ap (λ x. gap x ++ (spell_token t ++ spells (tight_after t) ts)) (ap (λ x. b || x) (not-true (tight_before t) e) ∙ or-false b)
 
 -- a node's own tokens: what stands before its parts is apart from what is before it and from its parts, and what follows a node is apart from it
 record Own {s : Sort} (h : Head s) : Type 0 where

@@ -1,6 +1,7 @@
 -- The nodes of an unrolling are counted without it. Assumes nothing.
 use Rattle.std.proofs.Common.{◌≡◌, ℕ, zero, suc, ◌+◌, ◌-◌, ◌*◌, Bool, true, false, cond, not, eqb, List, [], ◌∷◌, ◌++◌, length, replicate, Some, None, Option, sym, refl, ap, ◌∙◌, subst, ap₂, inl, inr, suc-mul, mul-zero, zero-mul, arith, rules}
 use Rattle.std.specs.Option.{option_or}
+use Rattle.std.proofs.lemmas.Bool.{not-false, eqb-true}
 use Rattle.std.proofs.lemmas.Bool.Decides.{eqb_tells}
 use Rattle.model.specs.declared.node.Triple.{Triple}
 use Rattle.model.specs.declared.law.Context.{Context}
@@ -87,12 +88,8 @@ pub neither : (a b : Option ℕ) → option_or a b ≡ None → (a ≡ None) × 
 neither None b p = (refl, p)
 neither (Some n) b p = cc
 
-clash : (t : Bool) → t ≡ false → not t ≡ false → ⊥
-clash true e f = search rules
-clash false e f = search rules
-
 even_counts : (a b : ℕ) → not (eqb a b) ≡ false → a ≡ b
-even_counts a b q = elim (eqb_tells a b) [ inl p ↦ p.1 | inr p ↦ absurd (clash (eqb a b) p.0 q) ]
+even_counts a b q = eqb-true a b (not-false (eqb a b) q)
 
 -- ---- the order in front of a list
 order_run : {X : Type 0} (H : Shape X) (ss : List Sort) (n : ℕ) (es : Exprs (replicate n num ++ ss)) (i : ℕ) → order X ss n (runs H es i) ≡ order_in ss n es
