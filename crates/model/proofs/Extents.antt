@@ -1,5 +1,5 @@
 -- Terms at a place of a list of nodes. Assumes nothing.
-use Rattle.std.proofs.Common.{◌≡◌, ℕ, ◌+◌, ◌-◌, ◌^◌, ◌<◌, ◌≤◌, min, max, ◌⊎◌, List, [], ◌∷◌, ◌++◌, length, drop, replicate, sym, refl, ap, ◌∙◌, inl, inr, append_assoc, arith, length-append, length-drop}
+use Rattle.std.proofs.Common.{◌≡◌, ℕ, ◌+◌, ◌-◌, ◌^◌, ◌<◌, ◌≤◌, min, max, ◌⊎◌, List, [], ◌∷◌, ◌++◌, length, drop, replicate, sym, refl, ap, ap₂, ◌∙◌, inl, inr, append_assoc, arith, length-append, length-drop}
 use Rattle.std.proofs.lemmas.List.{drop_all, length-replicate}
 use Rattle.model.specs.declared.node.Node.{Node}
 use Rattle.model.specs.declared.depth.Extent.{Extent}
@@ -52,11 +52,11 @@ parts_none nodes place k why ss none rest is stands = (stands, refl)
 parts_none nodes place k (inl z) ss (more (node h ds) es) rest is stands = absurd (omega arith)
 parts_none nodes place k (inr l) ss (more (node h ds) es) rest is stands = absurd (some≢none (sym (drop_all place nodes l) ∙ stands))
 
-pub parts_more : (nodes : List Node) (place k : ℕ) (first rest : Extent) → (k ≡ 0 → ⊥) → TermExtent nodes place first → PartsExtent nodes first.end (k - 1) rest
-    → PartsExtent nodes place k (record { end = rest.end; depth = max first.depth rest.depth })
+pub parts_more : (nodes : List Node) (place k d : ℕ) (first rest : Extent) → (k ≡ 0 → ⊥) → d ≡ max first.depth rest.depth → TermExtent nodes place first → PartsExtent nodes first.end (k - 1) rest
+    → PartsExtent nodes place k (record { end = rest.end; depth = d })
 unfolding flattens depths
-parts_more nodes place k first rest some p q ss none after is stands = absurd (some (sym is))
-parts_more nodes place k first rest some p q ss (more {s = s} {ss = ss'} e es) after is stands =
+parts_more nodes place k d first rest some deep p q ss none after is stands = absurd (some (sym is))
+parts_more nodes place k d first rest some deep p q ss (more {s = s} {ss = ss'} e es) after is stands =
     let a = p s e (flattens es ++ after) (stands ∙ append_assoc (flatten e) (flattens es) after) in
     let b = q ss' es after (omega arith) a.0 in
-    (b.0, (λ i. max (a.1 i) (b.1 i)))
+    (b.0, deep ∙ ap₂ max a.1 b.1)

@@ -1,11 +1,11 @@
 -- Reading the nodes of a program gives the program. Assumes nothing.
-use Rattle.std.proofs.Common.{◌≡◌, Bool, true, false, List, [], ◌∷◌, ◌++◌, sym, refl, ap, ◌∙◌, ap₂, append_assoc, append-nil, rules}
+use Rattle.std.proofs.Common.{◌≡◌, Bool, true, false, List, [], ◌∷◌, ◌++◌, length, sym, refl, ap, ◌∙◌, ap₂, append_assoc, append-nil, rules}
 use mathlib.Core.Option.{Option, some}
 use Rattle.model.specs.declared.node.Node.{Node}
-use Rattle.model.specs.Syntax.{Sort, one, solid, Head, arity, Expr, Exprs, node, none, more, Solid}
+use Rattle.model.specs.Syntax.{Sort, one, solid, Head, arity, Expr, Exprs, node, none, more, Solid, size}
 use Rattle.model.specs.Nodes.{flatten, flattens}
 use Rattle.model.specs.Held.{Headed, head_at, sorted_on, sorted, whole, fore, aft, only, read_on, read, program}
-use Rattle.model.proofs.Readable.{headed, reads_all}
+use Rattle.model.proofs.Readable.{headed, reads_all, length_flatten}
 
 cut_nodes : (as' ss : List Sort) (es : Exprs (as' ++ ss)) → flattens (fore as' ss es) ++ flattens (aft as' ss es) ≡ flattens es
 unfolding flattens
@@ -33,6 +33,10 @@ read_nodes (s ∷ ss) (x ∷ xs) e = one_head s ss x xs (head_at x s) (λ h. sor
 pub program_nodes : (ns : List Node) → whole ns ≡ true → flatten (program ns) ≡ ns
 unfolding whole program
 program_nodes ns e = sym (only_nodes (read (one solid ∷ []) ns)) ∙ read_nodes (one solid ∷ []) ns e
+
+-- a program has as many nodes as it is read from
+pub size_program : (ns : List Node) → whole ns ≡ true → size (program ns) ≡ length ns
+size_program ns e = sym (length_flatten (program ns)) ∙ ap length (program_nodes ns e)
 
 -- and the nodes of expressions pass the test
 mutual

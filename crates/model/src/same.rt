@@ -7,6 +7,7 @@ use super::table::Table;
 
 impl Node {
     /// Whether two nodes are the same, number for number.
+    #[tactic(auto, using(crate::proofs::Equal::decided))]
     pub fn same(self, other: Node) -> bool
         ensures { Decides result (self ≡ other) }
     {
