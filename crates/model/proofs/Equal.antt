@@ -1,6 +1,11 @@
 -- The derived `==` of nodes decides whether they are equal. Assumes nothing.
-use Rattle.std.proofs.Common.{◌≡◌, ℤ, Bool, true, Decides, refl, subst, ap}
+use Rattle.std.proofs.Common.{◌≡◌, ℤ, Bool, true, List, Decides, sym, refl, subst, ap, ◌∙◌}
 use Rattle.std.proofs.lemmas.Bool.Decides.{Decides-int_eq, Decides-eqb, Decides-and, Decides-like}
+use Rattle.std.specs.Cmp.Lexicographic.{pointwise}
+use Rattle.std.proofs.lemmas.Slice.Eq.{slice_eq-Decides}
+use Rattle.model.specs.Nodes.{flatten}
+use Rattle.model.specs.Held.{whole, program}
+use Rattle.model.proofs.Holding.{program_nodes}
 use Rattle.model.specs.declared.node.Node.{Node}
 use Rattle.model.specs.declared.node.Node.TheVariants as v
 use Rattle.model.specs.declared.node.Placement.{Placement}
@@ -88,3 +93,9 @@ self _ = refl
 
 pub decided : (a b : Node) → Decides ((node.ghosts).eq a b) (a ≡ b)
 decided = decides_by (node.ghosts).eq same self
+
+-- equal lists of nodes, equal programs; and back
+pub same_programs : (xs ys ns ms : List Node) (r : Bool) → xs ≡ ns → ys ≡ ms → whole ns ≡ true → whole ms ≡ true → r ≡ pointwise (node.ghosts).eq xs ys → Decides r (program ns ≡ program ms)
+same_programs xs ys ns ms r p q v w e =
+    let same = slice_eq-Decides decided xs ys r e in
+    (λ t. ap program (sym p ∙ same.0 t ∙ q), λ t. same.1 (p ∙ sym (program_nodes ns v) ∙ ap flatten t ∙ program_nodes ms w ∙ sym q))

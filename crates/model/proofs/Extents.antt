@@ -1,12 +1,14 @@
 -- Terms at a place of a list of nodes. Assumes nothing.
-use Rattle.std.proofs.Common.{◌≡◌, ℕ, ◌+◌, ◌-◌, ◌^◌, ◌<◌, ◌≤◌, min, max, ◌⊎◌, List, [], ◌∷◌, ◌++◌, length, drop, replicate, sym, refl, ap, ap₂, ◌∙◌, inl, inr, append_assoc, arith, length-append, length-drop}
+use Rattle.std.proofs.Common.{◌≡◌, ℕ, ◌+◌, ◌-◌, ◌^◌, ◌<◌, ◌≤◌, min, max, ◌⊎◌, List, [], ◌∷◌, ◌++◌, length, drop, replicate, sym, refl, ap, ap₂, ◌∙◌, inl, inr, append_assoc, append-nil, true, arith, length-append, length-drop}
 use Rattle.std.proofs.lemmas.List.{drop_all, length-replicate}
 use Rattle.model.specs.declared.node.Node.{Node}
 use Rattle.model.specs.declared.depth.Extent.{Extent}
-use Rattle.model.specs.Syntax.{Sort, one, many, num, Head, arity, Expr, Exprs, node, none, more, depth, depths}
+use Rattle.model.specs.Syntax.{Sort, one, solid, many, num, Head, arity, Expr, Exprs, node, none, more, depth, depths}
 use Rattle.model.specs.Syntax as S
 use Rattle.model.specs.Nodes.{node_of, parts, flatten, flattens}
 use Rattle.model.specs.Depths.{TermExtent, PartsExtent}
+use Rattle.model.specs.Held.{whole, program}
+use Rattle.model.proofs.Holding.{program_nodes}
 
 -- a head has as many parts as its node
 pub arity_parts : {s : Sort} (h : Head s) → length (arity h) ≡ parts (node_of h)
@@ -60,3 +62,11 @@ parts_more nodes place k d first rest some deep p q ss (more {s = s} {ss = ss'} 
     let a = p s e (flattens es ++ after) (stands ∙ append_assoc (flatten e) (flattens es) after) in
     let b = q ss' es after (omega arith) a.0 in
     (b.0, deep ∙ ap₂ max a.1 b.1)
+
+-- a program is as deep as the one term of its nodes
+pub depth_program : (nodes ns : List Node) (r : Extent) → nodes ≡ ns → whole ns ≡ true → PartsExtent nodes 0 1 r → r.depth ≡ depth (program ns)
+unfolding flattens depths
+depth_program nodes ns r same e p =
+    let root = program ns in
+    let stands = same ∙ sym (program_nodes ns e) ∙ sym (append-nil (flatten root)) ∙ sym (append-nil (flatten root ++ [])) in
+    omega (arith, (p (one solid ∷ []) (more root none) [] refl stands).1)

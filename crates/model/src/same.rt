@@ -17,6 +17,7 @@ impl Node {
 
 impl Table {
     /// Whether two tables hold the same program.
+    #[tactic(auto, using(crate::proofs::Equal::same_programs))]
     pub fn same(&self, other: &Table) -> bool
         ensures { Decides result (held self.now ≡ held other.now) }
     {
