@@ -17,7 +17,7 @@ use Rattle.model.specs.Tokens as T
 use Rattle.model.specs.Feed.{Feed, token, bad, end, said, Clean}
 use Rattle.model.specs.Grammar.{Goal, element, elements, mark, run, room, Outcome, whole, refused, judged}
 use Rattle.model.specs.Readings.{firsts, firsts_in, first_over, ReadsBack, Within}
-use Rattle.model.proofs.Once.{clash, fewer, one_reading}
+use Rattle.model.proofs.Once.{fewer, one_reading}
 use Rattle.model.proofs.Derive.{wanted, first_textual, parts_textual, no_number}
 use Rattle.model.proofs.Stops.{fed, whole_reading}
 

@@ -15,7 +15,7 @@ use Rattle.model.specs.Tokens.{Token, bracket, placement_word, operator_word, to
 use Rattle.model.specs.Tokens as T
 use Rattle.model.specs.Grammar.{Goal, element, list, in_solid, in_list, elements, mark, union, index, placement, plain, entry, Move, stuck, on, entries, if_mark, at_placement, after_solid_word, at_element, move}
 use Rattle.model.specs.Grammar as G
-use Rattle.model.proofs.Once.{clash, next, spelled, spelled_row}
+use Rattle.model.proofs.Once.{next, spelled, spelled_row}
 
 -- the tokens from us up to vs are those of an expression that a text may have
 abbrev pub Made : Sort → List Token → List Token → Type 0

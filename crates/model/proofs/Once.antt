@@ -15,10 +15,6 @@ use Rattle.model.specs.Syntax as S
 use Rattle.model.specs.Tokens.{Token, word, number, mark, bracket, placement_word, operator_word, opening, closing, tokens, row}
 use Rattle.model.specs.Readings.{OneReading}
 
--- nothing is, where 0 is 1
-pub clash : {A : Type 0} → ◌≡◌ {A = ℕ} 0 1 → A
-clash z = absurd (omega arith)
-
 pub next : {t u : Token} {xs ys : List Token} → t ∷ xs ≡ u ∷ ys → xs ≡ ys
 next e = cc
 

@@ -12,7 +12,6 @@ use Rattle.model.specs.Tokens.{Token}
 use Rattle.model.specs.Feed.{end}
 use Rattle.model.specs.Grammar.{Goal, Move, stuck, on, node, move, moved, run, room, Outcome, whole, refused}
 use Rattle.model.specs.Readings.{alone, firsts, first_over, RoomFor, FirstStop, FirstBad, FirstOver}
-use Rattle.model.proofs.Once.{clash}
 use Rattle.model.proofs.Back.{ended, exact}
 use Rattle.model.proofs.Stops.{fed, start, Passes, goes_on, halt, judged_told}
 

@@ -9,7 +9,6 @@ use Rattle.model.specs.Tokens.{Token, tokens}
 use Rattle.model.specs.Feed.{Feed, token, bad, end, said, Clean}
 use Rattle.model.specs.Grammar.{Goal, element, Move, stuck, on, node, move, moved, room, run, Outcome, whole, refused, judged}
 use Rattle.model.specs.Readings.{before, alone, GoesOn, Halt, at_token, at_end, WholeReading}
-use Rattle.model.proofs.Once.{clash}
 use Rattle.model.proofs.Derive.{GenAll, After, forth}
 use Rattle.model.proofs.Rejoin.{back, met}
 
