@@ -21,18 +21,6 @@ next e = cc
 next₂ : {t u v x : Token} {xs ys : List Token} → t ∷ u ∷ xs ≡ v ∷ x ∷ ys → xs ≡ ys
 next₂ e = cc
 
-placement : (t t' : Placement) → placement_word t ≡ placement_word t' → t ≡ t'
-placement by.Translate by.Translate q = refl
-placement by.Scale by.Scale q = refl
-placement by.Rotate by.Rotate q = refl
-placement _ _ q = cc
-
-operator : (o o' : Operator) → operator_word o ≡ operator_word o' → o ≡ o'
-operator op.Union op.Union q = refl
-operator op.Diff op.Diff q = refl
-operator op.Inter op.Inter q = refl
-operator _ _ q = cc
-
 linear : (a a' : Linear) (x x' : List Token) → bracket a ++ x ≡ bracket a' ++ x' → (a ≡ a') × (x ≡ x')
 linear a a' x x' q =
     let cx : a.constant.x ≡ a'.constant.x = cc in
@@ -42,64 +30,6 @@ linear a a' x x' q =
     let sy : a.slope.y ≡ a'.slope.y = cc in
     let sz : a.slope.z ≡ a'.slope.z = cc in
     ((λ i. record { constant = record { x = cx i; y = cy i; z = cz i }; slope = record { x = sx i; y = sy i; z = sz i } }), cc)
-
--- a number for each form, by which its word tells it from the other forms of its sort
-rank_of : Word → ℕ
-rank_of w.Empty = 0
-rank_of w.Prim = 1
-rank_of w.Translate = 2
-rank_of w.Scale = 2
-rank_of w.Rotate = 2
-rank_of w.Union = 3
-rank_of w.Diff = 3
-rank_of w.Inter = 3
-rank_of w.Fold = 4
-rank_of w.List = 5
-rank_of w.Repeat = 6
-rank_of w.Tabulate = 7
-rank_of w.Concat = 8
-rank_of w.Sort = 9
-rank_of w.Unsort = 10
-rank_of w.Map2 = 11
-rank_of w.Index = 0
-
-second : List Token → ℕ
-second [] = 0
-second (word x ∷ ts) = rank_of x
-second (number a c ∷ ts) = 0
-second (mark m ∷ ts) = 0
-
-rank_in : List Token → ℕ
-rank_in [] = 0
-rank_in (word x ∷ ts) = 0
-rank_in (number a c ∷ ts) = 0
-rank_in (mark m ∷ ts) = second ts
-
-abbrev rank : {s : Sort} → Head s → ℕ
-rank S.empty = 0
-rank (S.prim k a) = 1
-rank (S.place t a) = 2
-rank (S.join o) = 3
-rank S.fold = 4
-rank (S.vec a) = 0
-rank (S.list n) = 5
-rank (S.repeat n) = 6
-rank (S.tab n) = 7
-rank S.concat = 8
-rank (S.sort n) = 9
-rank (S.unsort n) = 10
-rank (S.map2 t) = 11
-rank (S.number j) = 0
-
-ranked : {s : Sort} (h : Head s) (x : List Token) → rank_in (opening h ++ x) ≡ rank h
-unfolding rank_in second rank_of
-ranked (S.place by.Translate a) x = refl
-ranked (S.place by.Scale a) x = refl
-ranked (S.place by.Rotate a) x = refl
-ranked (S.join op.Union) x = refl
-ranked (S.join op.Diff) x = refl
-ranked (S.join op.Inter) x = refl
-ranked _ x = refl
 
 -- equal but for the number of parts, which an opening does not say
 abbrev Alike : {s : Sort} → Head s → Head s → Type 0
@@ -118,26 +48,38 @@ Alike (S.unsort n) h = (m : ℕ) × (S.unsort m ≡ h)
 Alike (S.map2 t) h = S.map2 t ≡ h
 Alike (S.number j) h = S.number j ≡ h
 
--- heads with equal openings are alike; those of different rank have none
-paired : {s : Sort} (h h' : Head s) (x x' : List Token) → rank h ≡ rank h' → opening h ++ x ≡ opening h' ++ x' → Alike h h' × (x ≡ x')
-paired S.empty S.empty x x' _ q = (refl, next q)
-paired (S.prim k a) (S.prim k' a') x x' _ q = let v = linear a a' x x' (next (next₂ q)) in let p : k ≡ k' = cc in ((λ i. S.prim (p i) (v.0 i)), v.1)
-paired (S.place t a) (S.place t' a') x x' _ q = let v = linear a a' x x' (next₂ q) in let p = placement t t' (cc) in ((λ i. S.place (p i) (v.0 i)), v.1)
-paired (S.join o) (S.join o') x x' _ q = (ap S.join (operator o o' (cc)), next₂ q)
-paired S.fold S.fold x x' _ q = (refl, next (next₂ q))
-paired (S.vec a) (S.vec a') x x' _ q = let v = linear a a' x x' q in (ap S.vec v.0, v.1)
-paired (S.list n) (S.list n') x x' _ q = ((n', refl), next₂ q)
-paired (S.repeat n) (S.repeat n') x x' _ q = let p : n ≡ n' = cc in (ap S.repeat p, next (next₂ q))
-paired (S.tab n) (S.tab n') x x' _ q = let p : n ≡ n' = cc in (ap S.tab p, next₂ (next₂ (next₂ q)))
-paired S.concat S.concat x x' _ q = (refl, next₂ q)
-paired (S.sort n) (S.sort n') x x' _ q = ((n', refl), next₂ q)
-paired (S.unsort n) (S.unsort n') x x' _ q = ((n', refl), next₂ q)
-paired (S.map2 t) (S.map2 t') x x' _ q = (ap S.map2 (placement t t' (cc)), next (next₂ q))
-paired (S.number j) (S.number j') x x' _ q = let p : j ≡ j' = cc in (ap S.number p, next q)
-paired _ _ x x' p q = absurd (omega arith)
-
+-- heads with equal openings are alike
 alike : {s : Sort} (h h' : Head s) (x x' : List Token) → opening h ++ x ≡ opening h' ++ x' → Alike h h' × (x ≡ x')
-alike h h' x x' q = paired h h' x x' (sym (ranked h x) ∙ ap rank_in q ∙ ranked h' x') q
+alike S.empty S.empty x x' q = (refl, next q)
+alike (S.prim k a) (S.prim k' a') x x' q = let v = linear a a' x x' (next (next₂ q)) in let p : k ≡ k' = cc in ((λ i. S.prim (p i) (v.0 i)), v.1)
+alike (S.place by.Translate a) (S.place by.Translate a') x x' q = let v = linear a a' x x' (next₂ q) in (ap (S.place by.Translate) v.0, v.1)
+alike (S.place by.Scale a) (S.place by.Scale a') x x' q = let v = linear a a' x x' (next₂ q) in (ap (S.place by.Scale) v.0, v.1)
+alike (S.place by.Rotate a) (S.place by.Rotate a') x x' q = let v = linear a a' x x' (next₂ q) in (ap (S.place by.Rotate) v.0, v.1)
+alike (S.join op.Union) (S.join op.Union) x x' q = (refl, next₂ q)
+alike (S.join op.Diff) (S.join op.Diff) x x' q = (refl, next₂ q)
+alike (S.join op.Inter) (S.join op.Inter) x x' q = (refl, next₂ q)
+alike S.fold S.fold x x' q = (refl, next (next₂ q))
+alike (S.vec a) (S.vec a') x x' q = let v = linear a a' x x' q in (ap S.vec v.0, v.1)
+alike (S.list n) (S.list n') x x' q = ((n', refl), next₂ q)
+alike (S.repeat n) (S.repeat n') x x' q = let p : n ≡ n' = cc in (ap S.repeat p, next (next₂ q))
+alike (S.tab n) (S.tab n') x x' q = let p : n ≡ n' = cc in (ap S.tab p, next₂ (next₂ (next₂ q)))
+alike S.concat S.concat x x' q = (refl, next₂ q)
+alike (S.sort n) (S.sort n') x x' q = ((n', refl), next₂ q)
+alike (S.unsort n) (S.unsort n') x x' q = ((n', refl), next₂ q)
+alike (S.map2 by.Translate) (S.map2 by.Translate) x x' q = (refl, next (next₂ q))
+alike (S.map2 by.Scale) (S.map2 by.Scale) x x' q = (refl, next (next₂ q))
+alike (S.map2 by.Rotate) (S.map2 by.Rotate) x x' q = (refl, next (next₂ q))
+alike (S.number j) (S.number j') x x' q = let p : j ≡ j' = cc in (ap S.number p, next q)
+alike _ (S.place by.Translate a') x x' q = cc
+alike _ (S.place by.Scale a') x x' q = cc
+alike _ (S.place by.Rotate a') x x' q = cc
+alike _ (S.join op.Union) x x' q = cc
+alike _ (S.join op.Diff) x x' q = cc
+alike _ (S.join op.Inter) x x' q = cc
+alike _ (S.map2 by.Translate) x x' q = cc
+alike _ (S.map2 by.Scale) x x' q = cc
+alike _ (S.map2 by.Rotate) x x' q = cc
+alike _ _ x x' q = cc
 
 -- an element is no closing bracket, and a list is no number
 not_close : {k : Kind} (e : Expr (one k)) (x y : List Token) → tokens e ++ x ≡ mark Close ∷ y → ⊥
