@@ -1,5 +1,5 @@
 -- Numbers read back from their spelling. Assumes nothing.
-use Rattle.std.proofs.Common.{◌≡◌, ℕ, zero, suc, ◌-◌, ◌<◌, ◌≤◌, true, false, cond, eqb, List, [], ◌∷◌, ◌++◌, length, get_or, take, ℤ, pos, negsuc, nat_abs, Some, None, decimal, sym, refl, ap, ◌∙◌, arith}
+use Rattle.std.proofs.Common.{◌≡◌, ℕ, zero, suc, ◌+◌, ◌-◌, ◌<◌, ◌≤◌, Bool, true, false, cond, eqb, List, [], ◌∷◌, ◌++◌, length, get_or, take, ℤ, pos, negsuc, nat_abs, Some, None, decimal, sym, refl, ap, ◌∙◌, arith}
 use Rattle.std.specs.Option.{option_map}
 use Rattle.std.specs.Str.Parse.{AllDigits}
 use Rattle.std.specs.Char.{is_ascii_digit, digit_value}
@@ -9,8 +9,9 @@ use Rattle.std.specs.List.{prefix_len}
 use Rattle.std.specs.Str.{bytes_eq}
 use Rattle.std.proofs.lemmas.Fmt.{decimal_is_IsNumeral, decimal_digit, length-decimal-le, first_decimal}
 use Rattle.std.proofs.lemmas.List.{get_or-append_right, get_or_at, get_or_push, get_or_append_left, length_push, take_at, drop_at, length-append}
+use Rattle.std.proofs.lemmas.List.Folds.{prefix_len-append}
 use Rattle.std.proofs.lemmas.Str.Parse.{digit_at, digit_from_value}
-use Rattle.std.proofs.lemmas.Bool.{cond-true, cond-false, ne_eqb, le-leb, and_from, and_left}
+use Rattle.std.proofs.lemmas.Bool.{cond-true, cond-false, eq-eqb, ne_eqb, le-leb, and_from, and_left}
 use Rattle.model.specs.Bytes.{natural_of, minus, amount_of, change_of, cut, slope_of, plain_of, number_of, change, is_zero, Small, NumberBack}
 use Rattle.model.proofs.Numbers.{no_natural_byte, natural_digits, amount_minus, amount_plain, change_plus, change_minus, slope_alone, slope_both, number_index, number_plain}
 
@@ -83,9 +84,18 @@ with_index run =
 digit_true : (b : ℕ) → digit_value b < 10 → is_ascii_digit b ≡ true
 digit_true b h = let d = digit_from_value b h in and_from _ _ (le-leb 48 b d.0) (le-leb b 57 d.1)
 
+pub digits_pass : (p : ℕ → Bool) → ((b : ℕ) → digit_value b < 10 → p b ≡ true) → (ds : List ℕ) → AllDigits 10 ds → prefix_len p ds ≡ length ds
+digits_pass p f [] h = refl
+digits_pass p f (b ∷ ds) h = cond-true _ _ _ (f b h.0) ∙ omega (arith, digits_pass p f ds h.1)
+
+-- after bytes that pass, those that follow count
+pub passes_then : (p : ℕ → Bool) (xs rest : List ℕ) → prefix_len p xs ≡ length xs → prefix_len p (xs ++ rest) ≡ length xs + prefix_len p rest
+passes_then p xs rest h = prefix_len-append p xs rest ∙ cond-true _ _ _ (eq-eqb _ _ h)
+
 digits_then : (ds : List ℕ) (s : ℕ) (rest : List ℕ) → AllDigits 10 ds → is_ascii_digit s ≡ false → prefix_len is_ascii_digit (ds ++ (s ∷ rest)) ≡ length ds
-digits_then [] s rest h e = cond-false _ _ _ e
-digits_then (b ∷ ds) s rest h e = cond-true _ _ _ (digit_true b h.0) ∙ omega (arith, digits_then ds s rest h.1 e)
+digits_then ds s rest h e =
+    let stop : prefix_len is_ascii_digit (s ∷ rest) ≡ 0 = cond-false _ _ _ e in
+    omega (arith, passes_then is_ascii_digit ds (s ∷ rest) (digits_pass is_ascii_digit digit_true ds h))
 
 cut_digits : (ds : List ℕ) (s : ℕ) (rest : List ℕ) → 0 < length ds → AllDigits 10 ds → is_ascii_digit s ≡ false → length ds ≡ cut (ds ++ (s ∷ rest))
 cut_digits [] s rest p h e = absurd (omega arith)
