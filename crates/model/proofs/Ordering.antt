@@ -41,17 +41,8 @@ below f n (k ∷ p) = cond (ltb k n) (f k) 0 + below f n p
 
 below_one : (f : ℕ → ℕ) (k n : ℕ) → cond (ltb k (suc n)) (f k) 0 ≡ cond (ltb k n) (f k) 0 + cond (eqb n k) 1 0 * f n
 below_one f k n = elim (cases_order k n) [
-  | inl e ↦
-      ap (λ b. cond b (f k) 0) (lt-ltb k (suc n) (omega arith)) ∙ ap f e
-      ∙ sym (ap₂ (λ a b. cond a (f k) 0 + cond b 1 0 * f n) (le-ltb k n (omega arith)) (eq-eqb n k (sym e)) ∙ omega (arith, one-mul (f n)))
-  | inr r ↦ elim r [
-    | inl h ↦
-        ap (λ b. cond b (f k) 0) (lt-ltb k (suc n) (omega arith))
-        ∙ sym (ap₂ (λ a b. cond a (f k) 0 + cond b 1 0 * f n) (lt-ltb k n h) (ne_eqb n k (λ e. omega arith)) ∙ omega (arith, zero-mul (f n)))
-    | inr h ↦
-        ap (λ b. cond b (f k) 0) (le-ltb k (suc n) (omega arith))
-        ∙ sym (ap₂ (λ a b. cond a (f k) 0 + cond b 1 0 * f n) (le-ltb k n (omega arith)) (ne_eqb n k (λ e. omega arith)) ∙ omega (arith, zero-mul (f n)))
-  ]
+  | inl e ↦ let p = ap f e in grind (arith, nat_tests, one-mul (f n))
+  | inr r ↦ grind (arith, nat_tests, zero-mul (f n))
 ]
 
 below_suc : (f : ℕ → ℕ) (n : ℕ) (p : List ℕ) → below f (suc n) p ≡ below f n p + times_in n p * f n

@@ -1,11 +1,11 @@
 -- A text is the texts of its nodes' own tokens, with a space before each part, and what its length is. Assumes nothing.
-use Rattle.std.proofs.Common.{◌≡◌, ℕ, suc, ◌+◌, ◌≤◌, Bool, true, false, not, ◌||◌, List, [], ◌∷◌, ◌++◌, length, ℤ, pos, negsuc, decimal, sum_by, sym, refl, ap, ◌∙◌, append_assoc, append-nil, arith, length-append}
+use Rattle.std.proofs.Common.{◌≡◌, ℕ, suc, ◌+◌, ◌≤◌, Bool, true, false, not, ◌||◌, List, [], ◌∷◌, ◌++◌, length, get_or, ℤ, pos, negsuc, decimal, sum_by, sym, refl, ap, ◌∙◌, append_assoc, append-nil, arith, length-append}
 use Rattle.std.specs.Fmt.{signed_decimal}
 use Rattle.std.proofs.lemmas.Fmt.{length-decimal-le}
-use Rattle.std.proofs.ByRecursion.{All-weaker, sum_by_le}
+use Rattle.std.proofs.lemmas.List.Elements.{All-from_recursion}
 use Rattle.std.proofs.lemmas.Bool.{false≢true, not-true, cond_both}
 use Rattle.std.proofs.Math.Bool.{or-false}
-use Rattle.std.proofs.lemmas.List.Sums.{sum_by-cons, sum_by-append}
+use Rattle.std.proofs.lemmas.List.Sums.{sum_by-cons, sum_by-append, sum_by-le}
 use Rattle.model.specs.declared.node.Placement.{Placement}
 use Rattle.model.specs.declared.node.Placement.TheVariants as p
 use Rattle.model.specs.declared.node.Operator.{Operator}
@@ -185,8 +185,7 @@ own_le _ h = omega arith
 
 pub short_text : ShortText
 short_text s e few seven =
-    let all = All-weaker SevenNode (λ n. spaced n ≤ 73) (λ n h. let l = own_le n h in omega arith) (flatten e) seven in
-    let sum = sum_by_le spaced 73 (flatten e) all in
+    let sum = sum_by-le spaced 73 (flatten e) (λ k d h. let l = own_le (get_or (flatten e) k d) (All-from_recursion SevenNode (flatten e) seven k d h) in omega arith) in
     let n = length_flatten e in
     let len = length_text e in
     omega arith

@@ -29,12 +29,12 @@ Among i (Some n) = i < natural n
 
 none_from : (f : ℕ → Bool) (j n i : ℕ) → some_of f (from (λ k. k) j n) ≡ false → i < n → f (j + i) ≡ false
 none_from f j zero i p h = absurd (omega arith)
-none_from f j (suc n) zero p h = ap f (let e : j + 0 ≡ j = omega arith in e) ∙ (or_parts (f j) (some_of f (from (λ k. k) (suc j) n)) p).0
-none_from f j (suc n) (suc i) p h = ap f (let e : j + suc i ≡ suc j + i = omega arith in e) ∙ none_from f (suc j) n i (or_parts (f j) (some_of f (from (λ k. k) (suc j) n)) p).1 (omega arith)
+none_from f j (suc n) zero p h = ap f (omega arith) ∙ (or_parts (f j) (some_of f (from (λ k. k) (suc j) n)) p).0
+none_from f j (suc n) (suc i) p h = ap f (omega arith) ∙ none_from f (suc j) n i (or_parts (f j) (some_of f (from (λ k. k) (suc j) n)) p).1 (omega arith)
 
 at_index : (f : ℕ → Bool) (o : Option ℤ) (i : ℕ) → some_of f (indices o) ≡ false → Among i o → f i ≡ false
 at_index f None i p h = ap f h ∙ (or_parts (f 0) false p).0
-at_index f (Some n) i p h = ap f (let e : i ≡ 0 + i = omega arith in e) ∙ none_from f 0 (natural n) i p h
+at_index f (Some n) i p h = ap f (omega arith) ∙ none_from f 0 (natural n) i p h
 
 -- ---- a number that a placement takes is small
 fit_small : (t : Placement) (z : ℤ) → unfit t z ≡ false → beyond 1000000 z ≡ false
