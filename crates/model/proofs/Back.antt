@@ -41,19 +41,12 @@ walk_append sp n (p ∷ ps) qs k = ap (λ o. cond (room p.1 n) o (refused (TooLa
 -- what is to come after a head's opening, whose parts have d levels left
 abbrev inside : {s : Sort} → Head s → ℕ → List Goal → List Goal
 inside S.empty d gs = gs
-inside (S.prim k a) d gs = mark Close ∷ gs
-inside (S.place t a) d gs = wanted (one solid ∷ []) d (mark Close ∷ gs)
-inside (S.join o) d gs = wanted (one solid ∷ one solid ∷ []) d (mark Close ∷ gs)
-inside S.fold d gs = wanted (many solid ∷ []) d (mark Close ∷ gs)
 inside (S.vec a) d gs = gs
 inside (S.list {k} n) d gs = elements k d ∷ gs
-inside (S.repeat {k} n) d gs = wanted (one k ∷ []) d (mark Close ∷ gs)
-inside (S.tab {k} n) d gs = wanted (one k ∷ []) d (mark Close ∷ gs)
-inside (S.concat {k}) d gs = wanted (many k ∷ many k ∷ []) d (mark Close ∷ gs)
 inside (S.sort n) d gs = gs
 inside (S.unsort n) d gs = gs
-inside (S.map2 t) d gs = wanted (many vector ∷ many solid ∷ []) d (mark Close ∷ gs)
 inside (S.number j) d gs = gs
+inside h d gs = wanted (arity h) d (mark Close ∷ gs)
 
 opened : {s : Sort} (h : Head s) → textual_head h ≡ true → (sp : ℕ → Span) (i d n : ℕ) (f : Feed) (gs : List Goal) → run (fed sp i (opening h) f) (wanted (s ∷ []) d gs) n ≡ cond (room d n) (run f (inside h (d - 1) gs) (n + 1)) (refused (TooLarge (sp i)))
 opened (S.place by.Translate a) x sp i d n f gs = refl
@@ -125,21 +118,14 @@ module _ (m : ℕ) (ih : (s : Sort) (e : Expr s) → size e ≤ m → textual e 
   after_opening : {s : Sort} (h : Head s) (es : Exprs (arity h)) → sizes es ≤ m → textual_head h ≡ true → textuals es ≡ true → (sp : ℕ → Span) (i d n : ℕ) (f : Feed) (gs : List Goal) → run (fed sp i (row es ++ closing h) f) (inside h d gs) n ≡ walk sp n (firsts_in es i d) (run f gs)
   unfolding tokens row firsts firsts_in
   after_opening S.empty none l z x sp i d n f gs = refl
-  after_opening (S.prim k a) none l z x sp i d n f gs = refl
-  after_opening (S.place t a) es l z x sp i d n f gs = shut (one solid ∷ []) es l x sp i d n f gs
-  after_opening (S.join o) es l z x sp i d n f gs = shut (one solid ∷ one solid ∷ []) es l x sp i d n f gs
-  after_opening S.fold es l z x sp i d n f gs = shut (many solid ∷ []) es l x sp i d n f gs
   after_opening (S.vec a) none l z x sp i d n f gs = refl
   after_opening (S.list {k} c) es l z x sp i d n f gs =
       ap (λ g. run g (elements k d ∷ gs) n) (fed_append sp i (row es) (T.mark Close ∷ []) f)
       ∙ row_elements k c es l x sp (sp (i + length (row es))) i d n f gs
-  after_opening (S.repeat {k} c) es l z x sp i d n f gs = shut (one k ∷ []) es l x sp i d n f gs
-  after_opening (S.tab {k} c) es l z x sp i d n f gs = shut (one k ∷ []) es l x sp i d n f gs
-  after_opening (S.concat {k}) es l z x sp i d n f gs = shut (many k ∷ many k ∷ []) es l x sp i d n f gs
   after_opening (S.sort c) es l z x sp i d n f gs = cc
   after_opening (S.unsort c) es l z x sp i d n f gs = cc
-  after_opening (S.map2 t) es l z x sp i d n f gs = shut (many vector ∷ many solid ∷ []) es l x sp i d n f gs
   after_opening (S.number j) es l z x sp i d n f gs = cc
+  after_opening h es l z x sp i d n f gs = shut (arity h) es l x sp i d n f gs
 
 exact_upto : (m : ℕ) (s : Sort) (e : Expr s) → size e ≤ m → textual e ≡ true → Exact e
 unfolding size sizes tokens row firsts firsts_in

@@ -2,7 +2,7 @@
 use Rattle.std.proofs.Common.{◌≡◌, ℕ, zero, suc, ◌+◌, min, List, [], ◌∷◌, ◌++◌, length, get_or, replicate, refl, ap, ◌∙◌, ap₂, length-append}
 use lib.ListN.{length-map, length-replicate}
 use Rattle.model.specs.declared.node.Placement.{Placement}
-use Rattle.model.specs.Syntax.{Kind, solid, vector, Sort, one, many, num, Head, arity, empty, prim, place, join, fold, vec, list, repeat, tab, concat, sort, unsort, map2, number, Expr, Exprs, node, none, more}
+use Rattle.model.specs.Syntax.{Kind, solid, vector, Sort, one, many, num, Head, arity, list, repeat, tab, concat, sort, unsort, map2, Expr, Exprs, node, none, more}
 use Rattle.model.specs.Nodes.{node_of}
 use Rattle.model.specs.Shapes.{Shape, Den, Dens, row, order, past, run, runs, made_of, zip_with, idle, place_of, natural}
 use Rattle.model.specs.Counts.{elements, count, counts}

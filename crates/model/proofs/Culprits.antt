@@ -4,11 +4,11 @@ use Rattle.std.specs.Option.{option_or}
 use Rattle.std.proofs.lemmas.Bool.Decides.{leb_tells}
 use Rattle.model.specs.Limits.{most_nodes, most_levels, most_unrolled}
 use Rattle.model.specs.declared.law.Law.{Law}
-use Rattle.model.specs.declared.law.Law.TheVariants.{Size, Loops, Numbers, Primitives, Pairs, Lengths}
+use Rattle.model.specs.declared.law.Law.TheVariants.{Size, Lengths}
 use Rattle.model.specs.declared.law.Fault.{Fault}
 use Rattle.model.specs.declared.law.Context.{Context}
 use Rattle.model.specs.Families.{Meaning}
-use Rattle.model.specs.Syntax.{Sort, Head, empty, prim, place, join, fold, vec, list, repeat, tab, concat, sort, unsort, map2, number, Expr, Exprs, node, none, more, Solid, size, sizes, depth}
+use Rattle.model.specs.Syntax.{Sort, Head, empty, Expr, Exprs, node, none, more, Solid, size, sizes, depth}
 use Rattle.model.specs.Nodes.{node_of}
 use Rattle.model.specs.Counts.{counts}
 use Rattle.model.specs.Legality.{root, below, breaks, first, firsts, culprit, laws, told, first_fault, fault}

@@ -8,7 +8,7 @@ use Rattle.model.specs.declared.node.Operator.TheVariants as op
 use Rattle.model.specs.declared.node.Linear.{Linear}
 use Rattle.model.specs.declared.word.Word.TheVariants as w
 use Rattle.model.specs.declared.word.Mark.{Mark}
-use Rattle.model.specs.declared.word.Mark.TheVariants.{Open, Close, Left, Right, Comma}
+use Rattle.model.specs.declared.word.Mark.TheVariants.{Open, Close, Left}
 use Rattle.model.specs.Syntax.{Kind, solid, vector, Sort, one, many, num, Head, arity, Expr, Exprs, node, none, more, Solid, textual, textuals, textual_head}
 use Rattle.model.specs.Syntax as S
 use Rattle.model.specs.Tokens.{Token, bracket, placement_word, operator_word, tokens, row}

@@ -1,11 +1,12 @@
 -- Reading the nodes of a program gives the program. Assumes nothing.
-use Rattle.std.proofs.Common.{◌≡◌, Bool, true, false, List, [], ◌∷◌, ◌++◌, length, sym, refl, ap, ◌∙◌, ap₂, append_assoc, append-nil, rules}
+use Rattle.std.proofs.Common.{◌≡◌, Bool, true, List, [], ◌∷◌, ◌++◌, length, sym, refl, ap, ◌∙◌, ap₂, append_assoc, append-nil}
 use mathlib.Core.Option.{Option, some}
 use Rattle.model.specs.declared.node.Node.{Node}
 use Rattle.model.specs.Syntax.{Sort, one, solid, Head, arity, Expr, Exprs, node, none, more, Solid, size}
 use Rattle.model.specs.Nodes.{flatten, flattens}
 use Rattle.model.specs.Held.{Headed, head_at, sorted_on, sorted, whole, fore, aft, only, read_on, read, program}
-use Rattle.model.proofs.Readable.{headed, reads_all, length_flatten}
+use Rattle.model.proofs.Readable.{headed, length_flatten}
+use Rattle.model.proofs.Views.{reads_all}
 
 cut_nodes : (as' ss : List Sort) (es : Exprs (as' ++ ss)) → flattens (fore as' ss es) ++ flattens (aft as' ss es) ≡ flattens es
 unfolding flattens

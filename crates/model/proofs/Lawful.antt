@@ -1,5 +1,5 @@
 -- A legal program breaks no law. Assumes nothing.
-use Rattle.std.proofs.Common.{◌≡◌, ℕ, suc, ◌≤◌, ltb, Some, None, Option, refl, inl, inr, arith}
+use Rattle.std.proofs.Common.{◌≡◌, ℕ, ◌≤◌, ltb, Some, None, Option, refl}
 use Rattle.std.proofs.lemmas.Bool.{ltb-false}
 use Rattle.model.specs.Limits.{most_unrolled}
 use Rattle.model.specs.declared.law.Law.{Law}

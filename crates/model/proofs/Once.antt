@@ -2,17 +2,13 @@
 use Rattle.std.proofs.Common.{◌≡◌, ℕ, zero, suc, ◌≤◌, List, [], ◌∷◌, ◌++◌, replicate, sym, refl, ap, ◌∙◌, ap₂, append_assoc, append-nil, arith}
 use mathlib.Core.Path.{path_j}
 use Rattle.std.proofs.lemmas.List.{append_cancel_left}
-use Rattle.model.specs.declared.node.Placement.{Placement}
 use Rattle.model.specs.declared.node.Placement.TheVariants as by
-use Rattle.model.specs.declared.node.Operator.{Operator}
 use Rattle.model.specs.declared.node.Operator.TheVariants as op
 use Rattle.model.specs.declared.node.Linear.{Linear}
-use Rattle.model.specs.declared.word.Word.{Word}
-use Rattle.model.specs.declared.word.Word.TheVariants as w
 use Rattle.model.specs.declared.word.Mark.TheVariants.{Close}
 use Rattle.model.specs.Syntax.{Kind, Sort, one, many, num, Head, arity, Expr, Exprs, node, none, more, size, sizes}
 use Rattle.model.specs.Syntax as S
-use Rattle.model.specs.Tokens.{Token, word, number, mark, bracket, placement_word, operator_word, opening, closing, tokens, row}
+use Rattle.model.specs.Tokens.{Token, mark, bracket, opening, closing, tokens, row}
 use Rattle.model.specs.Readings.{OneReading}
 
 pub next : {t u : Token} {xs ys : List Token} → t ∷ xs ≡ u ∷ ys → xs ≡ ys

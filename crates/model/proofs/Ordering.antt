@@ -1,11 +1,11 @@
 -- Lists in a proper order. Assumes nothing.
-use Rattle.std.proofs.Common.{◌≡◌, ℕ, zero, suc, ◌+◌, ◌*◌, ◌<◌, ◌≤◌, Bool, true, false, cond, eqb, ltb, List, [], ◌∷◌, map, length, get_or, sym, refl, ap, ◌∙◌, subst, ap₂, inl, inr, add-mul, one-mul, zero-mul, arith, ext_get_or, rules}
+use Rattle.std.proofs.Common.{◌≡◌, ℕ, zero, suc, ◌+◌, ◌*◌, ◌<◌, ◌≤◌, Bool, true, false, cond, eqb, ltb, List, [], ◌∷◌, map, length, get_or, sym, refl, ap, ◌∙◌, subst, ap₂, add-mul, one-mul, zero-mul, arith, ext_get_or}
 use lib.ListN.{length-map}
 use Rattle.std.proofs.lemmas.List.{get_or-map}
-use Rattle.std.proofs.lemmas.Bool.{cases_order, and_parts, lt-ltb, le-ltb, eq-eqb, ne_eqb}
+use Rattle.std.proofs.lemmas.Bool.{and_parts, lt-ltb, eq-eqb}
 use Rattle.std.proofs.lemmas.Bool.Decides.{nat_tests}
 use Rattle.model.specs.Shapes.{place_of, sorted, unsorted}
-use Rattle.model.specs.Syntax.{Sort, Head, arity, empty, prim, place, join, fold, vec, list, repeat, tab, concat, sort, unsort, map2, number, Expr, Exprs, node, none, more, textual_head, textual, textuals}
+use Rattle.model.specs.Syntax.{Sort, Head, arity, sort, unsort, Expr, Exprs, node, none, more, textual_head, textual, textuals}
 use Rattle.model.specs.Orders.{times_in, Order, Proper, Ordered, AllOrdered}
 use Rattle.model.proofs.Sequences.{at_from, length_from}
 
@@ -40,10 +40,7 @@ below f n [] = 0
 below f n (k ∷ p) = cond (ltb k n) (f k) 0 + below f n p
 
 below_one : (f : ℕ → ℕ) (k n : ℕ) → cond (ltb k (suc n)) (f k) 0 ≡ cond (ltb k n) (f k) 0 + cond (eqb n k) 1 0 * f n
-below_one f k n = elim (cases_order k n) [
-  | inl e ↦ let p = ap f e in grind (arith, nat_tests, one-mul (f n))
-  | inr r ↦ grind (arith, nat_tests, zero-mul (f n))
-]
+below_one f k n = let p : k ≡ n → f k ≡ f n = λ e. ap f e in grind (arith, nat_tests, one-mul (f n), zero-mul (f n), p)
 
 below_suc : (f : ℕ → ℕ) (n : ℕ) (p : List ℕ) → below f (suc n) p ≡ below f n p + times_in n p * f n
 unfolding below
@@ -53,7 +50,7 @@ below_suc f n (k ∷ p) = let a = below_one f k n in let b = below_suc f n p in 
 below_zero : (f : ℕ → ℕ) (p : List ℕ) → below f 0 p ≡ 0
 unfolding below
 below_zero f [] = refl
-below_zero f (k ∷ p) = let b = below_zero f p in omega (arith, ap (λ t. cond t (f k) 0) (le-ltb k 0 (omega arith)))
+below_zero f (k ∷ p) = let b = below_zero f p in grind (arith, nat_tests)
 
 -- each number below n once: the sum over all of them
 below_all : (f : ℕ → ℕ) (n : ℕ) (p : List ℕ) → ((j : ℕ) → j < n → times_in j p ≡ 1) → below f n p ≡ sum_to f n

@@ -14,7 +14,7 @@ use Rattle.model.specs.declared.refusal.Span.{Span}
 use Rattle.model.specs.declared.word.Word.{Word}
 use Rattle.model.specs.declared.word.Word.TheVariants as w
 use Rattle.model.specs.declared.word.Mark.{Mark}
-use Rattle.model.specs.declared.word.Mark.TheVariants.{Open, Close, Left, Right, Comma}
+use Rattle.model.specs.declared.word.Mark.TheVariants.{Open}
 use Rattle.model.specs.Bytes.{is_sep, in_word, starts_number, in_number, mark_byte, spelling, word_of, mark_of, number_of, is_zero, change, numeral, Small}
 use Rattle.model.specs.Feed.{Feed, said, Clean}
 use Rattle.model.specs.Lexing.{got, run, stands, number_token, word_at, number_at, token_at, past_seps, fed, feed, SmallToken}

@@ -1,4 +1,4 @@
-use Rattle.std.proofs.Common.{vec_items, rules}
+use Rattle.std.proofs.Common.{vec_items}
 use Rattle.model.proofs.Extents.{depth_program}
 use Rattle.model.proofs.table.Table.depth.Goals as goal
 
