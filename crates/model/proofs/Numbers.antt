@@ -120,9 +120,8 @@ small_alone None h = tt
 small_alone (Some c) h = (omega arith, h)
 
 small_both : (o p : Option ℤ) → IfSome o Small → IfSome p Small → IfSome (option_zip o p) Smalls
-small_both None p h k = tt
-small_both (Some a) None h k = tt
 small_both (Some a) (Some c) h k = (h, k)
+small_both _ _ h k = tt
 
 small_or : (o p : Option (ℤ × ℤ)) → IfSome o Smalls → IfSome p Smalls → IfSome (option_or o p) Smalls
 small_or None p h k = k

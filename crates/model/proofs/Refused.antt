@@ -54,9 +54,8 @@ late_by (node d hs) go n k s later q =
 late : (r : List Token) (gs : List Goal) (n k : ℕ) (s : Span) → run (fed place k r (end 0)) gs n ≡ refused (TooLarge s) → k ≤ s.at
 unfolding place
 late [] [] n k s q = cc
-late [] (g ∷ gs) n k s q = cc
-late (t ∷ r) [] n k s q = cc
 late (t ∷ r) (g ∷ gs) n k s q = late_by (move g gs t) (run (fed place (suc k) r (end 0))) n k s (λ hs m p. let l = late r hs m (suc k) s p in omega arith) q
+late _ _ n k s q = cc
 
 passes_room : (us : List Token) → Passes us start 0 → RoomFor us
 unfolding place

@@ -23,10 +23,9 @@ at_replicate n k a d h = get_or-replicate n k a d h
 
 pub at_zip : {A B C : Type 0} (f : A → B → C) (l : List A) (m : List B) (k : ℕ) (a : A) (b : B) (c : C) → k < length l → k < length m
     → get_or (zip_with f l m) k c ≡ f (get_or l k a) (get_or m k b)
-at_zip f [] m k a b c p q = absurd (omega arith)
-at_zip f (x ∷ l) [] k a b c p q = absurd (omega arith)
 at_zip f (x ∷ l) (y ∷ m) zero a b c p q = refl
 at_zip f (x ∷ l) (y ∷ m) (suc k) a b c p q = at_zip f l m k a b c (omega arith) (omega arith)
+at_zip f _ _ k a b c p q = absurd (omega arith)
 
 pub at_front : {A : Type 0} (l m : List A) (k : ℕ) (d : A) → k < length l → get_or (l ++ m) k d ≡ get_or l k d
 at_front l m k d h = get_or_append_left l m d k h

@@ -27,9 +27,8 @@ pub refuses : (text : List ℕ) (f : Refusal) → outcome text ≡ refused f →
 refuses text f = by_length text (λ o. o ≡ refused f → Refuses text f) (λ long. too_long f long) (λ short. stopped f short)
   where
     too_long : (f : Refusal) → most_bytes < length text → refused (TooLarge past_end) ≡ refused f → Refuses text f
-    too_long (NoToken s) long q = cc
-    too_long (NoSolid s) long q = cc
     too_long (TooLarge s) long q = inl (long, cc)
+    too_long _ long q = cc
 
     stopped : (f : Refusal) → length text ≤ most_bytes → judged (feed_of text) ≡ refused f → Refuses text f
     stopped (NoToken s) short q = (short, first_bad (feed_of text) s q)

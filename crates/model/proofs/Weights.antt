@@ -44,9 +44,8 @@ sum_from f w p i (suc k) = let h = sum_from f w p (suc i) k in omega (arith, suc
 
 sum_zip : (f : Triple → ℕ → ℕ) → ((v : Triple) (n : ℕ) → f v n ≡ suc n) → (vs : List Triple) (l : List ℕ) → length vs ≡ length l → sum (zip_with f vs l) ≡ sum l + length l
 sum_zip f p [] [] q = refl
-sum_zip f p [] (n ∷ l) q = absurd (omega arith)
-sum_zip f p (v ∷ vs) [] q = absurd (omega arith)
 sum_zip f p (v ∷ vs) (n ∷ l) q = let h = sum_zip f p vs l (omega arith) in omega (arith, p v n)
+sum_zip f p _ _ q = absurd (omega arith)
 
 folded_some : (k w : ℕ) → folded (suc k) w ≡ w + k
 folded_some k w = elim (eqb_tells (suc k) 0) [ inl p ↦ absurd (omega arith) | inr p ↦ ap (λ t. cond t 1 (w + (suc k - 1))) p.0 ∙ omega arith ]
