@@ -17,7 +17,7 @@ use Rattle.model.specs.Tokens as T
 use Rattle.model.specs.Feed.{Feed, token, bad, end, said, Clean}
 use Rattle.model.specs.Grammar.{Goal, element, elements, mark, run, room, Outcome, whole, refused, judged}
 use Rattle.model.specs.Readings.{firsts, firsts_in, first_over, ReadsBack, Within}
-use Rattle.model.proofs.Once.{clash, fewer, one_reading}
+use Rattle.model.proofs.Once.{fewer, one_reading}
 use Rattle.model.proofs.Derive.{wanted, first_textual, parts_textual, no_number}
 use Rattle.model.proofs.Stops.{fed, whole_reading}
 
@@ -41,51 +41,33 @@ walk_append sp n (p ∷ ps) qs k = ap (λ o. cond (room p.1 n) o (refused (TooLa
 -- what is to come after a head's opening, whose parts have d levels left
 abbrev inside : {s : Sort} → Head s → ℕ → List Goal → List Goal
 inside S.empty d gs = gs
-inside (S.prim k a) d gs = mark Close ∷ gs
-inside (S.place t a) d gs = wanted (one solid ∷ []) d (mark Close ∷ gs)
-inside (S.join o) d gs = wanted (one solid ∷ one solid ∷ []) d (mark Close ∷ gs)
-inside S.fold d gs = wanted (many solid ∷ []) d (mark Close ∷ gs)
 inside (S.vec a) d gs = gs
 inside (S.list {k} n) d gs = elements k d ∷ gs
-inside (S.repeat {k} n) d gs = wanted (one k ∷ []) d (mark Close ∷ gs)
-inside (S.tab {k} n) d gs = wanted (one k ∷ []) d (mark Close ∷ gs)
-inside (S.concat {k}) d gs = wanted (many k ∷ many k ∷ []) d (mark Close ∷ gs)
 inside (S.sort n) d gs = gs
 inside (S.unsort n) d gs = gs
-inside (S.map2 t) d gs = wanted (many vector ∷ many solid ∷ []) d (mark Close ∷ gs)
 inside (S.number j) d gs = gs
+inside h d gs = wanted (arity h) d (mark Close ∷ gs)
 
 opened : {s : Sort} (h : Head s) → textual_head h ≡ true → (sp : ℕ → Span) (i d n : ℕ) (f : Feed) (gs : List Goal) → run (fed sp i (opening h) f) (wanted (s ∷ []) d gs) n ≡ cond (room d n) (run f (inside h (d - 1) gs) (n + 1)) (refused (TooLarge (sp i)))
-opened S.empty x sp i d n f gs = refl
-opened (S.prim k a) x sp i d n f gs = refl
 opened (S.place by.Translate a) x sp i d n f gs = refl
 opened (S.place by.Scale a) x sp i d n f gs = refl
 opened (S.place by.Rotate a) x sp i d n f gs = refl
 opened (S.join op.Union) x sp i d n f gs = refl
 opened (S.join op.Diff) x sp i d n f gs = refl
 opened (S.join op.Inter) x sp i d n f gs = refl
-opened S.fold x sp i d n f gs = refl
-opened (S.vec a) x sp i d n f gs = refl
-opened (S.list n) x sp i d m f gs = refl
-opened (S.repeat n) x sp i d m f gs = refl
-opened (S.tab n) x sp i d m f gs = refl
-opened S.concat x sp i d n f gs = refl
-opened (S.sort n) x sp i d m f gs = clash (cc)
-opened (S.unsort n) x sp i d m f gs = clash (cc)
+opened (S.sort n) x sp i d m f gs = cc
+opened (S.unsort n) x sp i d m f gs = cc
 opened (S.map2 by.Translate) x sp i d n f gs = refl
 opened (S.map2 by.Scale) x sp i d n f gs = refl
 opened (S.map2 by.Rotate) x sp i d n f gs = refl
-opened (S.number j) x sp i d n f gs = clash (cc)
+opened (S.number j) x sp i d n f gs = cc
+opened _ x sp i d n f gs = refl
 
 -- an element is read alike where more elements may follow
 among : {k : Kind} (e : Expr (one k)) (sp : ℕ → Span) (i d n : ℕ) (f : Feed) (gs : List Goal) → run (fed sp i (tokens e) f) (elements k d ∷ gs) n ≡ run (fed sp i (tokens e) f) (element k d ∷ elements k d ∷ gs) n
 unfolding tokens row
 among (node S.empty es) sp i d n f gs = refl
-among (node (S.prim k a) es) sp i d n f gs = refl
-among (node (S.place t a) es) sp i d n f gs = refl
-among (node (S.join o) es) sp i d n f gs = refl
-among (node S.fold es) sp i d n f gs = refl
-among (node (S.vec a) es) sp i d n f gs = refl
+among (node _ es) sp i d n f gs = refl
 
 -- the run over an expression's tokens is the walk over its nodes
 abbrev Exact : {s : Sort} → Expr s → Type 0
@@ -136,21 +118,14 @@ module _ (m : ℕ) (ih : (s : Sort) (e : Expr s) → size e ≤ m → textual e 
   after_opening : {s : Sort} (h : Head s) (es : Exprs (arity h)) → sizes es ≤ m → textual_head h ≡ true → textuals es ≡ true → (sp : ℕ → Span) (i d n : ℕ) (f : Feed) (gs : List Goal) → run (fed sp i (row es ++ closing h) f) (inside h d gs) n ≡ walk sp n (firsts_in es i d) (run f gs)
   unfolding tokens row firsts firsts_in
   after_opening S.empty none l z x sp i d n f gs = refl
-  after_opening (S.prim k a) none l z x sp i d n f gs = refl
-  after_opening (S.place t a) es l z x sp i d n f gs = shut (one solid ∷ []) es l x sp i d n f gs
-  after_opening (S.join o) es l z x sp i d n f gs = shut (one solid ∷ one solid ∷ []) es l x sp i d n f gs
-  after_opening S.fold es l z x sp i d n f gs = shut (many solid ∷ []) es l x sp i d n f gs
   after_opening (S.vec a) none l z x sp i d n f gs = refl
   after_opening (S.list {k} c) es l z x sp i d n f gs =
       ap (λ g. run g (elements k d ∷ gs) n) (fed_append sp i (row es) (T.mark Close ∷ []) f)
       ∙ row_elements k c es l x sp (sp (i + length (row es))) i d n f gs
-  after_opening (S.repeat {k} c) es l z x sp i d n f gs = shut (one k ∷ []) es l x sp i d n f gs
-  after_opening (S.tab {k} c) es l z x sp i d n f gs = shut (one k ∷ []) es l x sp i d n f gs
-  after_opening (S.concat {k}) es l z x sp i d n f gs = shut (many k ∷ many k ∷ []) es l x sp i d n f gs
-  after_opening (S.sort c) es l z x sp i d n f gs = clash (cc)
-  after_opening (S.unsort c) es l z x sp i d n f gs = clash (cc)
-  after_opening (S.map2 t) es l z x sp i d n f gs = shut (many vector ∷ many solid ∷ []) es l x sp i d n f gs
-  after_opening (S.number j) es l z x sp i d n f gs = clash (cc)
+  after_opening (S.sort c) es l z x sp i d n f gs = cc
+  after_opening (S.unsort c) es l z x sp i d n f gs = cc
+  after_opening (S.number j) es l z x sp i d n f gs = cc
+  after_opening h es l z x sp i d n f gs = shut (arity h) es l x sp i d n f gs
 
 exact_upto : (m : ℕ) (s : Sort) (e : Expr s) → size e ≤ m → textual e ≡ true → Exact e
 unfolding size sizes tokens row firsts firsts_in
@@ -201,7 +176,7 @@ has_room d n x y = and_from (ltb 0 d) (ltb n 640) (lt-ltb 0 d x) (lt-ltb n 640 y
 
 cond_none : (b : Bool) (o : Option ℕ) (j : ℕ) → cond b o (some j) ≡ O.none → (b ≡ true) × (o ≡ O.none)
 cond_none true o j e = (refl, e)
-cond_none false o j e = clash (cc)
+cond_none false o j e = cc
 
 none_append : (n : ℕ) (ps qs : List (ℕ × ℕ)) → first_over n ps ≡ O.none → first_over (n + length ps) qs ≡ O.none → first_over n (ps ++ qs) ≡ O.none
 none_append n [] qs x y = ap (λ m. first_over m qs) (omega arith) ∙ y
@@ -278,7 +253,7 @@ reads_back e f x l d q c = outcome e f x q c ∙ ap (λ o. ended (spans f) o (wh
 
 ended_whole : (sp : ℕ → Span) (o : Option ℕ) (k n : ℕ) → ended sp o (whole k) ≡ whole n → (o ≡ O.none) × (n ≡ k)
 ended_whole sp O.none k n q = (refl, cc)
-ended_whole sp (some j) k n q = clash (cc)
+ended_whole sp (some j) k n q = cc
 
 pub within : Within
 within f n e p q =

@@ -2,7 +2,7 @@
 use Rattle.std.proofs.Common.{◌≡◌, ℕ, zero, suc, ◌+◌, min, List, [], ◌∷◌, ◌++◌, length, get_or, replicate, refl, ap, ◌∙◌, ap₂, length-append}
 use lib.ListN.{length-map, length-replicate}
 use Rattle.model.specs.declared.node.Placement.{Placement}
-use Rattle.model.specs.Syntax.{Kind, solid, vector, Sort, one, many, num, Head, arity, empty, prim, place, join, fold, vec, list, repeat, tab, concat, sort, unsort, map2, number, Expr, Exprs, node, none, more}
+use Rattle.model.specs.Syntax.{Kind, solid, vector, Sort, one, many, num, Head, arity, list, repeat, tab, concat, sort, unsort, map2, Expr, Exprs, node, none, more}
 use Rattle.model.specs.Nodes.{node_of}
 use Rattle.model.specs.Shapes.{Shape, Den, Dens, row, order, past, run, runs, made_of, zip_with, idle, place_of, natural}
 use Rattle.model.specs.Counts.{elements, count, counts}
@@ -39,12 +39,6 @@ module _ {X : Type 0} (H : Shape X) where
   paired t d (a ∷ b ∷ cs) p = length_zip (H.place t) d.0 d.1.0 ∙ ap₂ min p.0 p.1.0
 
   head_long : {s : Sort} (h : Head s) (d : ℕ → Dens X (arity h)) (i : ℕ) (cs : List ℕ) → Longs X (arity h) (d i) cs → Long X s (made_of H h d i) (elements (node_of h) cs)
-  head_long empty d i cs p = tt
-  head_long (prim k v) d i cs p = tt
-  head_long (place t v) d i cs p = tt
-  head_long (join o) d i cs p = tt
-  head_long fold d i cs p = tt
-  head_long (vec v) d i cs p = tt
   head_long (list {k} n) d i cs p = length_row X k n (d i)
   head_long (repeat n) d i cs p = length-replicate (natural n) (d i).0
   head_long (tab n) d i cs p = length_from (λ j. (d j).0) 0 (natural n)
@@ -54,7 +48,7 @@ module _ {X : Type 0} (H : Shape X) where
       length_from (λ j. get_or (past X (many k ∷ []) n (d i)).0 (place_of j (order X (many k ∷ []) n (d i))) (idle H k)) 0 (length (order X (many k ∷ []) n (d i)))
       ∙ length_order X (many k ∷ []) n (d i)
   head_long (map2 t) d i cs p = paired t (d i) cs p
-  head_long (number j) d i cs p = tt
+  head_long _ d i cs p = tt
 
   mutual
     unfolding run runs count counts

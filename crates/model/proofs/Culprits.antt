@@ -4,11 +4,11 @@ use Rattle.std.specs.Option.{option_or}
 use Rattle.std.proofs.lemmas.Bool.Decides.{leb_tells}
 use Rattle.model.specs.Limits.{most_nodes, most_levels, most_unrolled}
 use Rattle.model.specs.declared.law.Law.{Law}
-use Rattle.model.specs.declared.law.Law.TheVariants.{Size, Loops, Numbers, Primitives, Pairs, Lengths}
+use Rattle.model.specs.declared.law.Law.TheVariants.{Size, Lengths}
 use Rattle.model.specs.declared.law.Fault.{Fault}
 use Rattle.model.specs.declared.law.Context.{Context}
 use Rattle.model.specs.Families.{Meaning}
-use Rattle.model.specs.Syntax.{Sort, Head, empty, prim, place, join, fold, vec, list, repeat, tab, concat, sort, unsort, map2, number, Expr, Exprs, node, none, more, Solid, size, sizes, depth}
+use Rattle.model.specs.Syntax.{Sort, Head, empty, Expr, Exprs, node, none, more, Solid, size, sizes, depth}
 use Rattle.model.specs.Nodes.{node_of}
 use Rattle.model.specs.Counts.{counts}
 use Rattle.model.specs.Legality.{root, below, breaks, first, firsts, culprit, laws, told, first_fault, fault}
@@ -18,18 +18,12 @@ use Rattle.model.specs.Feed.{Feed, token, bad, end, said}
 use Rattle.model.specs.Starts.{before, befores, nth_span}
 
 -- ---- the node
-some_same : {a b : ℕ} → Some a ≡ Some b → a ≡ b
-some_same e = cc
-
-never : {a : ℕ} {X : Type 0} → None ≡ Some a → X
-never e = absurd (let z : ◌≡◌ {A = ℕ} 0 1 = cc in omega arith)
-
 -- n is one of k numbers from at on
 abbrev Within : ℕ → ℕ → ℕ → Type 0
 Within at k n = (at ≤ n) × (n < at + k)
 
 node_within : (b : Bool) (at k n : ℕ) (o : Option ℕ) → (o ≡ Some n → Within (suc at) k n) → cond b (Some at) o ≡ Some n → Within at (suc k) n
-node_within true at k n o f p = let q = some_same p in (omega arith, omega arith)
+node_within true at k n o f p = let q : at ≡ n = cc in (omega arith, omega arith)
 node_within false at k n o f p = let q = f p in (omega (arith, q.0), omega (arith, q.1))
 
 either_within : (a b : Option ℕ) (at k j n : ℕ) → (a ≡ Some n → Within at k n) → (b ≡ Some n → Within (at + k) j n) → option_or a b ≡ Some n → Within at (k + j) n
@@ -44,7 +38,7 @@ mutual
       node_within (breaks m c (counts es) (node_of h) l) at (sizes es) n (firsts m l (below (node_of h) c) es (suc at)) (firsts_within m l (below (node_of h) c) es (suc at) n) p
 
   firsts_within : (m : Meaning) (l : Law) (c : Context) {ss : List Sort} (es : Exprs ss) (at n : ℕ) → firsts m l c es at ≡ Some n → Within at (sizes es) n
-  firsts_within m l c none at n p = never p
+  firsts_within m l c none at n p = cc
   firsts_within m l c (more e es) at n p =
       either_within (first m l c e at) (firsts m l c es (at + size e)) at (size e) (sizes es) n (first_within m l c e at n) (firsts_within m l c es (at + size e) n) p
 
@@ -54,23 +48,20 @@ some_node (node h es) = omega arith
 
 -- node 0, or else a node as told
 root_within : (b : Bool) (k n : ℕ) (o : Option ℕ) → 0 < k → (o ≡ Some n → n < k) → cond b (Some 0) o ≡ Some n → n < k
-root_within true k n o some f p = let q = some_same p in omega arith
+root_within true k n o some f p = let q : 0 ≡ n = cc in omega arith
 root_within false k n o some f p = f p
 
 culprit_within : (m : Meaning) (e : Solid) (l : Law) (n : ℕ) → culprit m e l ≡ Some n → n < size e
-culprit_within m e Size n p = root_within (ltb most_nodes (size e) || ltb most_levels (depth e)) (size e) n None (some_node e) (λ q. never q) p
-culprit_within m e Loops n p = omega (arith, (first_within m Loops root e 0 n p).1)
-culprit_within m e Numbers n p = omega (arith, (first_within m Numbers root e 0 n p).1)
-culprit_within m e Primitives n p = omega (arith, (first_within m Primitives root e 0 n p).1)
-culprit_within m e Pairs n p = omega (arith, (first_within m Pairs root e 0 n p).1)
+culprit_within m e Size n p = root_within (ltb most_nodes (size e) || ltb most_levels (depth e)) (size e) n None (some_node e) (λ q. cc) p
 culprit_within m e Lengths n p = root_within (ltb most_unrolled (size (unroll e))) (size e) n (first m Lengths root e 0) (some_node e) (λ q. omega (arith, (first_within m Lengths root e 0 n q).1)) p
+culprit_within m e l n p = omega (arith, (first_within m l root e 0 n p).1)
 
 told_within : (l : Law) (o : Option ℕ) (later : Option Fault) (f : Fault) (k : ℕ) → ((n : ℕ) → o ≡ Some n → n < k) → (later ≡ Some f → f.node < k) → told l o later ≡ Some f → f.node < k
 told_within l None later f k here after p = after p
 told_within l (Some n) later f k here after p = let q : n ≡ f.node = cc in omega (arith, here n refl)
 
 faults_within : (m : Meaning) (e : Solid) (ls : List Law) (f : Fault) → first_fault m e ls ≡ Some f → f.node < size e
-faults_within m e [] f p = absurd (let z : ◌≡◌ {A = ℕ} 0 1 = cc in omega arith)
+faults_within m e [] f p = cc
 faults_within m e (l ∷ ls) f p = told_within l (culprit m e l) (first_fault m e ls) f (size e) (culprit_within m e l) (faults_within m e ls f) p
 
 pub fault_within : (m : Meaning) (e : Solid) (f : Fault) → fault m e ≡ Some f → f.node < size e
@@ -80,19 +71,7 @@ fault_within m e f p = faults_within m e laws f p
 -- ---- its first token
 opening_some : {s : Sort} (h : Head s) → 0 < length (opening h)
 opening_some empty = omega arith
-opening_some (prim k a) = omega arith
-opening_some (place t a) = omega arith
-opening_some (join o) = omega arith
-opening_some fold = omega arith
-opening_some (vec a) = omega arith
-opening_some (list n) = omega arith
-opening_some (repeat n) = omega arith
-opening_some (tab n) = omega arith
-opening_some concat = omega arith
-opening_some (sort n) = omega arith
-opening_some (unsort n) = omega arith
-opening_some (map2 t) = omega arith
-opening_some (number j) = omega arith
+opening_some _ = omega arith
 
 mutual
   unfolding before befores tokens row size sizes
@@ -112,7 +91,7 @@ mutual
       ]
 
 pub nth_some : (f : Feed) (n : ℕ) → n < length (said f) → nth_span f n ≡ None → ⊥
-nth_some (token t s f) zero p q = let z : ◌≡◌ {A = ℕ} 0 1 = cc in omega arith
+nth_some (token t s f) zero p q = cc
 nth_some (token t s f) (suc n) p q = nth_some f n (omega arith) q
 nth_some (bad s) n p q = omega arith
 nth_some (end b) n p q = omega arith

@@ -8,14 +8,14 @@ use Rattle.model.specs.declared.node.Operator.TheVariants as op
 use Rattle.model.specs.declared.node.Linear.{Linear}
 use Rattle.model.specs.declared.word.Word.TheVariants as w
 use Rattle.model.specs.declared.word.Mark.{Mark}
-use Rattle.model.specs.declared.word.Mark.TheVariants.{Open, Close, Left, Right, Comma}
+use Rattle.model.specs.declared.word.Mark.TheVariants.{Open, Close, Left}
 use Rattle.model.specs.Syntax.{Kind, solid, vector, Sort, one, many, num, Head, arity, Expr, Exprs, node, none, more, Solid, textual, textuals, textual_head}
 use Rattle.model.specs.Syntax as S
 use Rattle.model.specs.Tokens.{Token, bracket, placement_word, operator_word, tokens, row}
 use Rattle.model.specs.Tokens as T
 use Rattle.model.specs.Grammar.{Goal, element, list, in_solid, in_list, elements, mark, union, index, placement, plain, entry, Move, stuck, on, entries, if_mark, at_placement, after_solid_word, at_element, move}
 use Rattle.model.specs.Grammar as G
-use Rattle.model.proofs.Once.{clash, next, spelled, spelled_row}
+use Rattle.model.proofs.Once.{next, spelled, spelled_row}
 
 -- the tokens from us up to vs are those of an expression that a text may have
 abbrev pub Made : Sort → List Token → List Token → Type 0
@@ -67,7 +67,7 @@ parts_textual h es x = and_parts (textual_head h) (textuals es) x
 
 pub no_number : (e : Expr num) → textual e ≡ true → ⊥
 unfolding textual textuals
-no_number (node (S.number j) es) x = clash (cc)
+no_number (node (S.number j) es) x = cc
 
 parts_forth : (ss : List Sort) (es : Exprs ss) (d : ℕ) (gs : List Goal) (x : List Token) → textuals es ≡ true → GenAll gs x → GenAll (wanted ss d gs) (row es ++ x)
 unfolding tokens row
@@ -83,21 +83,13 @@ bracket_forth a gs x q = (_, refl, (_, (_, _, refl), (_, refl, (_, (_, _, refl),
 element_forth : (k : Kind) (e : Expr (one k)) (d : ℕ) (gs : List Goal) (x : List Token) → textual e ≡ true → GenAll gs x → Front (element k d) gs (tokens e ++ x)
 unfolding tokens row bracket_forth
 element_forth solid (node S.empty none) d gs x t q = (T.word w.Empty, x, refl, q)
-element_forth solid (node (S.prim k a) es) d gs x t q = (T.mark Open, _, refl, (x, (node (S.prim k a) es, t, refl), q))
-element_forth solid (node (S.place c a) es) d gs x t q = (T.mark Open, _, refl, (x, (node (S.place c a) es, t, refl), q))
-element_forth solid (node (S.join o) es) d gs x t q = (T.mark Open, _, refl, (x, (node (S.join o) es, t, refl), q))
-element_forth solid (node S.fold es) d gs x t q = (T.mark Open, _, refl, (x, (node S.fold es, t, refl), q))
+element_forth solid (node h es) d gs x t q = (T.mark Open, _, refl, (x, (node h es, t, refl), q))
 element_forth vector (node (S.vec a) none) d gs x t q = (T.mark Left, _, refl, (bracket_forth a gs x q).2)
 
 list_forth : (k : Kind) (l : Expr (many k)) (d : ℕ) (gs : List Goal) (x : List Token) → textual l ≡ true → GenAll gs x → Front (list k d) gs (tokens l ++ x)
 unfolding tokens row
 list_forth k (node (S.list n) es) d gs x t q = (T.mark Open, _, refl, (x, (node (S.list n) es, t, refl), q))
-list_forth k (node (S.repeat n) es) d gs x t q = (T.mark Open, _, refl, (x, (node (S.repeat n) es, t, refl), q))
-list_forth k (node (S.tab n) es) d gs x t q = (T.mark Open, _, refl, (x, (node (S.tab n) es, t, refl), q))
-list_forth k (node S.concat es) d gs x t q = (T.mark Open, _, refl, (x, (node S.concat es, t, refl), q))
-list_forth k (node (S.sort n) es) d gs x t q = (T.mark Open, _, refl, (x, (node (S.sort n) es, t, refl), q))
-list_forth k (node (S.unsort n) es) d gs x t q = (T.mark Open, _, refl, (x, (node (S.unsort n) es, t, refl), q))
-list_forth k (node (S.map2 c) es) d gs x t q = (T.mark Open, _, refl, (x, (node (S.map2 c) es, t, refl), q))
+list_forth k (node h es) d gs x t q = (T.mark Open, _, refl, (x, (node h es, t, refl), q))
 
 -- a placement's and an operator's goals
 abbrev pub placing : ℕ → List Goal → List Goal
@@ -105,18 +97,15 @@ placing d gs = mark Left ∷ entries (element solid d ∷ mark Close ∷ gs)
 
 pub placing_word : (t : Placement) (d : ℕ) (gs : List Goal) → after_solid_word d gs (placement_word t) ≡ on (placing d gs)
 placing_word by.Translate d gs = refl
-placing_word by.Scale d gs = refl
-placing_word by.Rotate d gs = refl
+placing_word _ d gs = refl
 
 pub joining_word : (o : Operator) (d : ℕ) (gs : List Goal) → after_solid_word d gs (operator_word o) ≡ on (element solid d ∷ element solid d ∷ mark Close ∷ gs)
 joining_word op.Union d gs = refl
-joining_word op.Diff d gs = refl
-joining_word op.Inter d gs = refl
+joining_word _ d gs = refl
 
 pub map2_word : (t : Placement) (gs : List Goal) → at_placement (placement_word t) gs ≡ on gs
 map2_word by.Translate gs = refl
-map2_word by.Scale gs = refl
-map2_word by.Rotate gs = refl
+map2_word _ gs = refl
 
 -- a node's parts, with the bracket that closes it
 shut : {s : Sort} (h : Head s) (es : Exprs (arity h)) (d : ℕ) (gs : List Goal) (x : List Token) → textual (node h es) ≡ true → GenAll gs x → GenAll (wanted (arity h) d (mark Close ∷ gs)) (row es ++ (T.mark Close ∷ x))
@@ -124,7 +113,7 @@ shut h es d gs x t q = parts_forth (arity h) es d (mark Close ∷ gs) (T.mark Cl
 
 in_solid_forth : (e : Solid) (d : ℕ) (gs : List Goal) (us x : List Token) → textual e ≡ true → T.mark Open ∷ us ≡ tokens e ++ x → GenAll gs x → Front (in_solid d) gs us
 unfolding tokens row
-in_solid_forth (node S.empty es) d gs us x t e q = clash (cc)
+in_solid_forth (node S.empty es) d gs us x t e q = cc
 in_solid_forth (node (S.prim k a) none) d gs us x t e q = (T.word w.Prim, _, next e, (_, (k, refl), bracket_forth a (mark Close ∷ gs) (T.mark Close ∷ x) (x, refl, q)))
 in_solid_forth (node (S.place c a) es) d gs us x t e q = (T.word (placement_word c), _, next (e ∙ spelled (S.place c a) es x), subst (λ m. After m (bracket a ++ (row es ++ (T.mark Close ∷ x)))) (sym (placing_word c d gs)) (bracket_forth a (element solid d ∷ mark Close ∷ gs) (row es ++ (T.mark Close ∷ x)) (shut (S.place c a) es d gs x t q)))
 in_solid_forth (node (S.join o) es) d gs us x t e q = (T.word (operator_word o), _, next (e ∙ spelled (S.join o) es x), subst (λ m. After m (row es ++ (T.mark Close ∷ x))) (sym (joining_word o d gs)) (shut (S.join o) es d gs x t q))
@@ -136,21 +125,17 @@ in_list_forth k (node (S.list n) es) d gs us x t e q = (T.word w.List, _, next (
 in_list_forth k (node (S.repeat n) es) d gs us x t e q = (T.word w.Repeat, _, next (e ∙ spelled (S.repeat n) es x), (_, (n, refl), shut (S.repeat n) es d gs x t q))
 in_list_forth k (node (S.tab n) es) d gs us x t e q = (T.word w.Tabulate, _, next (e ∙ spelled (S.tab n) es x), (_, refl, (_, refl, (_, (n, refl), (_, refl, shut (S.tab n) es d gs x t q)))))
 in_list_forth k (node S.concat es) d gs us x t e q = (T.word w.Concat, _, next (e ∙ spelled S.concat es x), shut S.concat es d gs x t q)
-in_list_forth k (node (S.sort n) es) d gs us x t e q = clash (cc)
-in_list_forth k (node (S.unsort n) es) d gs us x t e q = clash (cc)
+in_list_forth k (node (S.sort n) es) d gs us x t e q = cc
+in_list_forth k (node (S.unsort n) es) d gs us x t e q = cc
 in_list_forth solid (node (S.map2 c) es) d gs us x t e q = (T.word w.Map2, _, next (e ∙ spelled (S.map2 c) es x), (_, (c, refl), shut (S.map2 c) es d gs x t q))
 
 -- an element's token begins the elements too
 wider : (k : Kind) (d : ℕ) (gs : List Goal) (t : Token) (us : List Token) → After (at_element k d (elements k d ∷ gs) t) us → After (move (elements k d) gs t) us
-wider k d gs (T.word x) us h = h
 wider solid d gs (T.number a c) us h = absurd h
 wider vector d gs (T.number a c) us h = absurd h
-wider k d gs (T.mark Open) us h = h
 wider solid d gs (T.mark Close) us h = absurd h
 wider vector d gs (T.mark Close) us h = absurd h
-wider k d gs (T.mark Left) us h = h
-wider k d gs (T.mark Right) us h = h
-wider k d gs (T.mark Comma) us h = h
+wider k d gs _ us h = h
 
 elements_forth : (k : Kind) (n : ℕ) (es : Exprs (replicate n (one k))) (d : ℕ) (gs : List Goal) (x : List Token) → textuals es ≡ true → GenAll gs x → Front (elements k d) gs (row es ++ (T.mark Close ∷ x))
 unfolding tokens row
@@ -162,10 +147,7 @@ elements_forth k (suc n) (more e es) d gs x t q =
 
 same_mark : (n : Mark) (m : Move) (us : List Token) → After m us → After (if_mark n n m) us
 same_mark Open m us h = h
-same_mark Close m us h = h
-same_mark Left m us h = h
-same_mark Right m us h = h
-same_mark Comma m us h = h
+same_mark _ m us h = h
 
 -- what goals stand for begins with a token that moves them on
 pub forth : (g : Goal) (gs : List Goal) (us : List Token) → GenAll (g ∷ gs) us → Front g gs us

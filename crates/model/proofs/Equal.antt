@@ -1,6 +1,11 @@
 -- The derived `==` of nodes decides whether they are equal. Assumes nothing.
-use Rattle.std.proofs.Common.{◌≡◌, ℤ, Bool, true, Decides, refl, subst, ap}
+use Rattle.std.proofs.Common.{◌≡◌, ℤ, Bool, true, List, Decides, sym, refl, subst, ap, ◌∙◌}
 use Rattle.std.proofs.lemmas.Bool.Decides.{Decides-int_eq, Decides-eqb, Decides-and, Decides-like}
+use Rattle.std.specs.Cmp.Lexicographic.{pointwise}
+use Rattle.std.proofs.lemmas.Slice.Eq.{slice_eq-Decides}
+use Rattle.model.specs.Nodes.{flatten}
+use Rattle.model.specs.Held.{whole, program}
+use Rattle.model.proofs.Holding.{program_nodes}
 use Rattle.model.specs.declared.node.Node.{Node}
 use Rattle.model.specs.declared.node.Node.TheVariants as v
 use Rattle.model.specs.declared.node.Placement.{Placement}
@@ -37,8 +42,7 @@ placements a b e = cc
 
 placement_self : (a : Placement) → (placement.ghosts).eq a a ≡ true
 placement_self p.Translate = refl
-placement_self p.Scale = refl
-placement_self p.Rotate = refl
+placement_self _ = refl
 
 operators : (a b : Operator) → (operator.ghosts).eq a b ≡ true → a ≡ b
 operators o.Union o.Union e = refl
@@ -48,8 +52,7 @@ operators a b e = cc
 
 operator_self : (a : Operator) → (operator.ghosts).eq a a ≡ true
 operator_self o.Union = refl
-operator_self o.Diff = refl
-operator_self o.Inter = refl
+operator_self _ = refl
 
 sized : (k m : ℤ) (a b : Linear) → Decides ((node.ghosts).eq (v.Primitive k a) (v.Primitive m b)) ((k ≡ m) × (a ≡ b))
 sized k m a b = Decides-and _ _ (Decides-int_eq k m) (linears a b)
@@ -75,20 +78,24 @@ same (v.Number i) (v.Number j) e = ap v.Number ((Decides-eqb i j).0 e)
 same a b e = cc
 
 self : (a : Node) → (node.ghosts).eq a a ≡ true
-self v.Empty = refl
 self (v.Primitive k a) = (sized k k a a).1 (refl, refl)
 self (v.Place t a) = (placed t t a a).1 (refl, refl)
 self (v.Join o) = operator_self o
-self v.Fold = refl
 self (v.Vector a) = (linears a a).1 refl
 self (v.List n) = (Decides-eqb n n).1 refl
 self (v.Repeat n) = (Decides-int_eq n n).1 refl
 self (v.Tabulate n) = (Decides-int_eq n n).1 refl
-self v.Concat = refl
 self (v.Sort n) = (Decides-eqb n n).1 refl
 self (v.Unsort n) = (Decides-eqb n n).1 refl
 self (v.Map2 t) = placement_self t
 self (v.Number j) = (Decides-eqb j j).1 refl
+self _ = refl
 
 pub decided : (a b : Node) → Decides ((node.ghosts).eq a b) (a ≡ b)
 decided = decides_by (node.ghosts).eq same self
+
+-- equal lists of nodes, equal programs; and back
+pub same_programs : (xs ys ns ms : List Node) (r : Bool) → xs ≡ ns → ys ≡ ms → whole ns ≡ true → whole ms ≡ true → r ≡ pointwise (node.ghosts).eq xs ys → Decides r (program ns ≡ program ms)
+same_programs xs ys ns ms r p q v w e =
+    let same = slice_eq-Decides decided xs ys r e in
+    (λ t. ap program (sym p ∙ same.0 t ∙ q), λ t. same.1 (p ∙ sym (program_nodes ns v) ∙ ap flatten t ∙ program_nodes ms w ∙ sym q))

@@ -1,11 +1,12 @@
 -- One token of a text after another. Assumes nothing.
-use Rattle.std.proofs.Common.{◌≡◌, ℕ, zero, suc, ◌+◌, ◌-◌, ◌<◌, ◌≤◌, Bool, true, false, ◌||◌, eqb, leb, List, length, get_or, drop, ℤ, Some, None, Option, sym, refl, ap, ◌∙◌, subst, arith, length-drop}
+use Rattle.std.proofs.Common.{◌≡◌, ℕ, zero, suc, ◌+◌, ◌-◌, ◌<◌, ◌≤◌, Bool, true, leb, List, length, get_or, drop, ℤ, Some, None, Option, sym, refl, ap, ◌∙◌, subst, arith, length-drop}
 use borrow.Author.Tests.{false-leb}
 use Rattle.std.specs.Option.{option_map}
-use Rattle.std.specs.Char.{is_ascii_alphabetic, is_ascii_digit}
+use Rattle.std.specs.Char.{is_ascii_alphabetic}
 use Rattle.std.specs.List.{prefix_len}
 use Rattle.std.proofs.lemmas.List.{length-take-le}
 use Rattle.std.proofs.lemmas.List.Sums.{prefix_len-drop_yes, prefix_len-le-length}
+use Rattle.std.proofs.lemmas.Bool.Decides.{nat_tests}
 use Rattle.std.proofs.lemmas.Bool.{or_left, cond_both, cond-true, cond-false, le-leb, lt-leb}
 use Rattle.model.specs.declared.refusal.Span.{Span}
 use Rattle.model.specs.declared.word.Word.{Word}
@@ -20,8 +21,7 @@ use Rattle.model.proofs.Numbers.{number_small}
 -- a token ends past byte i, and within the text's n bytes
 abbrev pub Ahead : ℕ → ℕ → Step → Type 0
 Ahead i n (got x s) = (i < s.at + s.len) × (s.at + s.len ≤ n)
-Ahead i n (bad s) = Unit {0}
-Ahead i n (end b) = Unit {0}
+Ahead i n _ = Unit {0}
 
 pub length_run : (p : ℕ → Bool) (t : List ℕ) (s : ℕ) → length (run p t s) ≡ prefix_len p (drop s t)
 length_run p t s = length-take-le (prefix_len p (drop s t)) (drop s t) (prefix_len-le-length p (drop s t))
@@ -37,13 +37,7 @@ stands_ahead (Some x) s m n h w = (omega arith, w)
 stands_ahead None s m n h w = tt
 
 starts_in : (b : ℕ) → starts_number b ≡ true → in_number b ≡ true
-starts_in b = go (is_ascii_digit b) (eqb b 45) (eqb b 43) (eqb b 105)
-  where
-    go : (d m p i : Bool) → (d || m) ≡ true → (d || (p || (m || i))) ≡ true
-    go true m p i e = refl
-    go false true true i e = refl
-    go false true false i e = refl
-    go false false p i e = absurd (let z : ◌≡◌ {A = ℕ} 0 1 = cc in omega arith)
+starts_in b e = grind (arith, nat_tests)
 
 -- a token takes a byte, and ends within the text
 pub token_ahead : (t : List ℕ) (s : ℕ) → s < length t → Ahead s (length t) (token_at t s)
@@ -64,8 +58,7 @@ got_ahead t s x p q h e same =
 
 later : (i s n : ℕ) (x : Step) → i ≤ s → Ahead s n x → Ahead i n x
 later i s n (got x a) h p = (omega (arith, p.0), p.1)
-later i s n (bad a) h p = tt
-later i s n (end a) h p = tt
+later i s n _ h p = tt
 
 pub step_ahead : (t : List ℕ) (i : ℕ) → Ahead i (length t) (step_at t i)
 step_ahead t i =
@@ -74,8 +67,7 @@ step_ahead t i =
 
 fed_same : (x : Step) (i n : ℕ) (p q : ℕ → Feed) → Ahead i n x → ((e : ℕ) → i < e → e ≤ n → p e ≡ q e) → fed x p ≡ fed x q
 fed_same (got x s) i n p q a h = ap (F.token x s) (h (s.at + s.len) a.0 a.1)
-fed_same (bad s) i n p q a h = refl
-fed_same (end b) i n p q a h = refl
+fed_same _ i n p q a h = refl
 
 -- more steps than bytes are as good as enough
 enough : (f g : ℕ) (t : List ℕ) (i : ℕ) → length t - i < f → length t - i < g → feeds f t i ≡ feeds g t i
@@ -102,8 +94,7 @@ feed_token t i s e h =
 
 abbrev SmallStep : Step → Type 0
 SmallStep (got x s) = SmallToken x
-SmallStep (bad s) = Unit {0}
-SmallStep (end b) = Unit {0}
+SmallStep _ = Unit {0}
 
 small_word : (o : Option Word) (s n : ℕ) → SmallStep (stands (option_map word o) s n)
 small_word None s n = tt
@@ -127,13 +118,11 @@ small_step t i =
 
 abbrev SmallFirst : Feed → Type 0
 SmallFirst (F.token x s f) = SmallToken x
-SmallFirst (F.bad s) = Unit {0}
-SmallFirst (F.end b) = Unit {0}
+SmallFirst _ = Unit {0}
 
 small_fed : (x : Step) (rest : ℕ → Feed) → SmallStep x → SmallFirst (fed x rest)
 small_fed (got x s) rest h = h
-small_fed (bad s) rest h = tt
-small_fed (end b) rest h = tt
+small_fed _ rest h = tt
 
 -- a text's tokens are small
 pub feed_small : (t : List ℕ) (i : ℕ) (x : Token) (s : Span) (f : Feed) → feed t i ≡ F.token x s f → SmallToken x

@@ -1,14 +1,12 @@
 -- Reading the nodes of a program gives the program. Assumes nothing.
-use Rattle.std.proofs.Common.{◌≡◌, Bool, true, false, List, [], ◌∷◌, ◌++◌, sym, refl, ap, ◌∙◌, ap₂, append_assoc, append-nil, rules}
+use Rattle.std.proofs.Common.{◌≡◌, Bool, true, List, [], ◌∷◌, ◌++◌, length, sym, refl, ap, ◌∙◌, ap₂, append_assoc, append-nil}
 use mathlib.Core.Option.{Option, some}
 use Rattle.model.specs.declared.node.Node.{Node}
-use Rattle.model.specs.Syntax.{Sort, one, solid, Head, arity, Expr, Exprs, node, none, more, Solid}
+use Rattle.model.specs.Syntax.{Sort, one, solid, Head, arity, Expr, Exprs, node, none, more, Solid, size}
 use Rattle.model.specs.Nodes.{flatten, flattens}
 use Rattle.model.specs.Held.{Headed, head_at, sorted_on, sorted, whole, fore, aft, only, read_on, read, program}
-use Rattle.model.proofs.Readable.{headed, reads_all}
-
-nt : false ≡ true → ⊥
-nt e = search rules
+use Rattle.model.proofs.Readable.{headed, length_flatten}
+use Rattle.model.proofs.Views.{reads_all}
 
 cut_nodes : (as' ss : List Sort) (es : Exprs (as' ++ ss)) → flattens (fore as' ss es) ++ flattens (aft as' ss es) ≡ flattens es
 unfolding flattens
@@ -22,20 +20,24 @@ only_nodes (more e none) = append-nil (flatten e)
 one_head : (s : Sort) (ss : List Sort) (x : Node) (xs : List Node) (o : Option (Headed x s)) (b : Head s → Bool) (k : (h : Head s) → Exprs (arity h ++ ss))
     → ((h : Head s) → b h ≡ true → flattens (k h) ≡ xs) → sorted_on o b ≡ true → flattens (read_on s ss o k) ≡ x ∷ xs
 unfolding flatten flattens
-one_head s ss x xs Option.none b k f e = absurd (nt e)
+one_head s ss x xs Option.none b k f e = cc
 one_head s ss x xs (some h) b k f e = ap₂ ◌∷◌ h.is (cut_nodes (arity h.head) ss (k h.head) ∙ f h.head e)
 
 -- what is read has the nodes
 read_nodes : (ss : List Sort) (ns : List Node) → sorted ss ns ≡ true → flattens (read ss ns) ≡ ns
 unfolding flattens
 read_nodes [] [] e = refl
-read_nodes [] (x ∷ xs) e = absurd (nt e)
-read_nodes (s ∷ ss) [] e = absurd (nt e)
+read_nodes [] (x ∷ xs) e = cc
+read_nodes (s ∷ ss) [] e = cc
 read_nodes (s ∷ ss) (x ∷ xs) e = one_head s ss x xs (head_at x s) (λ h. sorted (arity h ++ ss) xs) (λ h. read (arity h ++ ss) xs) (λ h. read_nodes (arity h ++ ss) xs) e
 
 pub program_nodes : (ns : List Node) → whole ns ≡ true → flatten (program ns) ≡ ns
 unfolding whole program
 program_nodes ns e = sym (only_nodes (read (one solid ∷ []) ns)) ∙ read_nodes (one solid ∷ []) ns e
+
+-- a program has as many nodes as it is read from
+pub size_program : (ns : List Node) → whole ns ≡ true → size (program ns) ≡ length ns
+size_program ns e = sym (length_flatten (program ns)) ∙ ap length (program_nodes ns e)
 
 -- and the nodes of expressions pass the test
 mutual

@@ -1,6 +1,6 @@
 -- A legal program breaks no law. Assumes nothing.
-use Rattle.std.proofs.Common.{◌≡◌, ℕ, suc, ◌≤◌, ltb, Some, None, Option, refl, inl, inr, arith}
-use Rattle.std.proofs.lemmas.Bool.Decides.{leb_tells}
+use Rattle.std.proofs.Common.{◌≡◌, ℕ, ◌≤◌, ltb, Some, None, Option, refl}
+use Rattle.std.proofs.lemmas.Bool.{ltb-false}
 use Rattle.model.specs.Limits.{most_unrolled}
 use Rattle.model.specs.declared.law.Law.{Law}
 use Rattle.model.specs.declared.law.Law.TheVariants.{Size, Loops, Numbers, Primitives, Pairs, Lengths}
@@ -15,7 +15,7 @@ use Rattle.model.proofs.Weights.{kept, weight_unrolled}
 
 none_told : (l : Law) (o : Option ℕ) (later : Option Fault) → told l o later ≡ None → (o ≡ None) × (later ≡ None)
 none_told l None later p = (refl, p)
-none_told l (Some n) later p = absurd (let z : ◌≡◌ {A = ℕ} 0 1 = cc in omega arith)
+none_told l (Some n) later p = cc
 
 pub keeps_law : (m : Meaning) (e : Solid) → Legal m e → (l : Law) → culprit m e l ≡ None
 unfolding Legal fault
@@ -44,4 +44,4 @@ legal_weight m e t p = weight_unrolled m e t (keeps_law m e p Pairs)
 pub legal_small : (m : Meaning) (e : Solid) → Legal m e → size (unroll e) ≤ most_unrolled
 legal_small m e p =
     let small = (kept (ltb most_unrolled (size (unroll e))) 0 (first m Lengths root e 0) (keeps_law m e p Lengths)).0 in
-    elim (leb_tells (suc most_unrolled) (size (unroll e))) [ inl q ↦ absurd (let z : ◌≡◌ {A = ℕ} 0 1 = cc in omega arith) | inr q ↦ omega arith ]
+    ltb-false most_unrolled (size (unroll e)) small

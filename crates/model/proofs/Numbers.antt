@@ -1,56 +1,23 @@
 -- What a run spells, by the run's first and last bytes. Assumes nothing.
-use Rattle.std.proofs.Common.{◌≡◌, ℕ, zero, suc, ◌-◌, ◌^◌, ◌<◌, ◌≤◌, Bool, true, false, not, ◌&&◌, eqb, ltb, leb, ◌⊎◌, List, [], ◌∷◌, length, get_or, take, drop, ℤ, pos, IfSome, Some, None, Option, sym, refl, ap, ◌∙◌, subst, inl, inr, arith}
+use Rattle.std.proofs.Common.{◌≡◌, ℕ, zero, suc, ◌-◌, ◌<◌, ◌≤◌, Bool, true, false, not, eqb, ltb, leb, List, [], ◌∷◌, length, get_or, take, drop, ℤ, pos, IfSome, Some, None, Option, sym, refl, ap, ◌∙◌, subst, arith}
 use Rattle.std.specs.Option.{option_map, option_or, option_zip}
 use Rattle.std.specs.Bool.{then_some}
 use Rattle.std.specs.Str.Parse.{digits_value, AllDigits}
-use Rattle.std.specs.Char.{is_ascii_digit, digit_value as value_of_digit}
+use Rattle.std.specs.Char.{is_ascii_digit}
 use Rattle.std.specs.Str.{all_ascii_digits, bytes_eq}
-use Rattle.std.proofs.lemmas.Str.Parse.{IsNumeralModel, numerals_by_value, tells_digits, tells_all_ascii_digits, digits_value_short}
-use Rattle.std.proofs.lemmas.Bool.{cond-true, cond-false, and_left, and_right, and_from, and_parts, lt-ltb, le-ltb, le-leb, lt-leb, leb-true, eq-eqb, ne_eqb, not_from_true, not_from_false, cond_both}
-use Rattle.std.proofs.lemmas.Bool.Decides.{nat_tests}
+use Rattle.std.proofs.lemmas.Str.Parse.{IsNumeralModel, numerals_by_value, tells_all_ascii_digits, digits_value_short}
+use Rattle.std.proofs.lemmas.Bool.{cond-true, cond-false, and_right, and_from, and_parts, lt-ltb, le-leb, leb-true, eq-eqb, ne_eqb, not_from_false, cond_both}
+use Rattle.std.proofs.lemmas.List.Recursion.{and_fails_at}
 use Rattle.model.specs.Bytes.{natural, natural_of, minus, amount_of, change_of, cut, slope_of, plain_of, number_of, Small, NumberSmall}
-
--- a digit's value
-pub digit_value : (b : ℕ) → is_ascii_digit b ≡ true → (value_of_digit b ≡ b - 48) × (value_of_digit b < 10)
-digit_value b e = (grind (arith, nat_tests), grind (arith, nat_tests))
-
-own : IsNumeralModel (AllDigits 10) (digits_value 10)
-own = numerals_by_value (AllDigits 10) tells_digits
 
 all_digits : IsNumeralModel (λ ds. all_ascii_digits ds ≡ true) (digits_value 10)
 all_digits = numerals_by_value _ tells_all_ascii_digits
 
--- k digits write a number below the k-th power of ten
-pub short_value : (run : List ℕ) (k : ℕ) → AllDigits 10 run → length run ≤ k → digits_value 10 run < 10 ^ k
-short_value run k h s = digits_value_short own run k h s
-
-any_false : (a b c d : Bool) → (a ≡ false) ⊎ ((b ≡ false) ⊎ ((c ≡ false) ⊎ (d ≡ false))) → (a && (b && (c && d))) ≡ false
-any_false a b c d (inl e) = and_left a _ e
-any_false a b c d (inr (inl e)) = and_right a _ (and_left b _ e)
-any_false a b c d (inr (inr (inl e))) = and_right a _ (and_right b _ (and_left c d e))
-any_false a b c d (inr (inr (inr e))) = and_right a _ (and_right b _ (and_right c d e))
-
--- a run is no natural number if one of these fails: it has bytes, at most seven, not 0 first, digits only
-none_when : (run : List ℕ) → (ltb 0 (length run) ≡ false) ⊎ ((leb (length run) 7 ≡ false) ⊎ ((not (eqb (get_or run 0 0) 48) ≡ false) ⊎ (all_ascii_digits run ≡ false))) → natural_of run ≡ None
-unfolding natural_of
-none_when run e = ap (λ b. then_some b (digits_value 10 run)) (any_false (ltb 0 (length run)) (leb (length run) 7) (not (eqb (get_or run 0 0) 48)) (all_ascii_digits run) e)
-
-pub no_natural_empty : (run : List ℕ) → length run ≡ 0 → natural_of run ≡ None
-no_natural_empty run h = none_when run (inl (le-ltb 0 (length run) (omega arith)))
-
-pub no_natural_long : (run : List ℕ) → 7 < length run → natural_of run ≡ None
-no_natural_long run h = none_when run (inr (inl (lt-leb (length run) 7 h)))
-
-pub no_natural_zero : (run : List ℕ) → get_or run 0 0 ≡ 48 → natural_of run ≡ None
-no_natural_zero run h = none_when run (inr (inr (inl (not_from_true _ (eq-eqb _ 48 h)))))
-
-not_all : (run : List ℕ) (i : ℕ) → i < length run → is_ascii_digit (get_or run i 0) ≡ false → all_ascii_digits run ≡ false
-not_all [] i h e = absurd (omega arith)
-not_all (b ∷ run) zero h e = and_left _ _ e
-not_all (b ∷ run) (suc i) h e = and_right _ _ (not_all run i (omega arith) e)
-
 pub no_natural_byte : (run : List ℕ) (i : ℕ) → i < length run → is_ascii_digit (get_or run i 0) ≡ false → natural_of run ≡ None
-no_natural_byte run i h e = none_when run (inr (inr (inr (not_all run i h e))))
+unfolding natural_of
+no_natural_byte run i h e =
+    let other : all_ascii_digits run ≡ false = and_fails_at all_ascii_digits is_ascii_digit refl (λ _ _. refl) run i 0 h e in
+    ap (λ b. then_some b (digits_value 10 run)) (and_right (ltb 0 (length run)) _ (and_right (leb (length run) 7) _ (and_right (not (eqb (get_or run 0 0) 48)) _ other)))
 
 pub natural_digits : (run : List ℕ) → 0 < length run → length run ≤ 7 → (get_or run 0 0 ≡ 48 → ⊥) → AllDigits 10 run → natural_of run ≡ Some (digits_value 10 run)
 unfolding natural_of
@@ -121,7 +88,7 @@ small_natural run = go (natural run) refl
     go true e =
         let short = and_parts (leb (length run) 7) _ (and_parts (ltb 0 (length run)) _ e).1 in
         let digits = (and_parts (not (eqb (get_or run 0 0) 48)) (all_ascii_digits run) short.1).1 in
-        omega (arith, short_value run 7 (all_digits.to run digits) (leb-true (length run) 7 short.0))
+        omega (arith, digits_value_short all_digits run 7 digits (leb-true (length run) 7 short.0))
 
 small_pos : (o : Option ℕ) → IfSome o (λ n. n ≤ 9999999) → IfSome (option_map pos o) Small
 small_pos None h = tt
@@ -153,9 +120,8 @@ small_alone None h = tt
 small_alone (Some c) h = (omega arith, h)
 
 small_both : (o p : Option ℤ) → IfSome o Small → IfSome p Small → IfSome (option_zip o p) Smalls
-small_both None p h k = tt
-small_both (Some a) None h k = tt
 small_both (Some a) (Some c) h k = (h, k)
+small_both _ _ h k = tt
 
 small_or : (o p : Option (ℤ × ℤ)) → IfSome o Smalls → IfSome p Smalls → IfSome (option_or o p) Smalls
 small_or None p h k = k

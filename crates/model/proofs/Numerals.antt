@@ -1,5 +1,5 @@
 -- Numbers read back from their spelling. Assumes nothing.
-use Rattle.std.proofs.Common.{◌≡◌, ℕ, zero, suc, ◌-◌, ◌<◌, ◌≤◌, true, false, cond, eqb, List, [], ◌∷◌, ◌++◌, length, get_or, take, ℤ, pos, negsuc, nat_abs, Some, None, decimal, sym, refl, ap, ◌∙◌, arith}
+use Rattle.std.proofs.Common.{◌≡◌, ℕ, zero, suc, ◌+◌, ◌-◌, ◌<◌, ◌≤◌, Bool, true, false, cond, eqb, List, [], ◌∷◌, ◌++◌, length, get_or, take, ℤ, pos, negsuc, nat_abs, Some, None, decimal, sym, refl, ap, ◌∙◌, arith}
 use Rattle.std.specs.Option.{option_map}
 use Rattle.std.specs.Str.Parse.{AllDigits}
 use Rattle.std.specs.Char.{is_ascii_digit, digit_value}
@@ -8,9 +8,10 @@ use Rattle.std.specs.Fmt.{signed_decimal}
 use Rattle.std.specs.List.{prefix_len}
 use Rattle.std.specs.Str.{bytes_eq}
 use Rattle.std.proofs.lemmas.Fmt.{decimal_is_IsNumeral, decimal_digit, length-decimal-le, first_decimal}
-use Rattle.std.proofs.lemmas.List.{get_or_at, get_or_push, get_or_append_left, length_push, take_at, drop_at, length-append}
+use Rattle.std.proofs.lemmas.List.{get_or-append_right, get_or_at, get_or_push, get_or_append_left, length_push, take_at, drop_at, length-append}
+use Rattle.std.proofs.lemmas.List.Folds.{prefix_len-append}
 use Rattle.std.proofs.lemmas.Str.Parse.{digit_at, digit_from_value}
-use Rattle.std.proofs.lemmas.Bool.{cond-true, cond-false, ne_eqb, le-leb, and_from, and_left}
+use Rattle.std.proofs.lemmas.Bool.{cond-true, cond-false, eq-eqb, ne_eqb, le-leb, and_from, and_left}
 use Rattle.model.specs.Bytes.{natural_of, minus, amount_of, change_of, cut, slope_of, plain_of, number_of, change, is_zero, Small, NumberBack}
 use Rattle.model.proofs.Numbers.{no_natural_byte, natural_digits, amount_minus, amount_plain, change_plus, change_minus, slope_alone, slope_both, number_index, number_plain}
 
@@ -51,25 +52,21 @@ plain_amount run h = cond-false _ _ _ (other run h)
     other [] h = refl
     other (x ∷ xs) h = and_left (eqb x 48) (bytes_eq xs []) (ne_eqb x 48 h)
 
-last_cons : (b : ℕ) (ds : List ℕ) → 0 < length ds → get_or (b ∷ ds) (length (b ∷ ds) - 1) 0 ≡ get_or ds (length ds - 1) 0
-last_cons b [] h = absurd (omega arith)
-last_cons b (x ∷ xs) h =
-    let long : length (b ∷ x ∷ xs) - 1 ≡ suc (length xs) = omega arith in
-    let short : length (x ∷ xs) - 1 ≡ length xs = omega arith in
-    ap (λ n. get_or (b ∷ x ∷ xs) n 0) long ∙ sym (ap (λ n. get_or (x ∷ xs) n 0) short)
-
 last_digit : (n : ℕ) → Size n → get_or (decimal n) (length (decimal n) - 1) 0 ≡ 105 → ⊥
 last_digit n h e =
     let some = some_digit n h in
     let d = digit_at (decimal n) (length (decimal n) - 1) (digits_of n h) (omega arith) in
     omega (arith, d.1)
 
+last_after_minus : (ds : List ℕ) → 0 < length ds → get_or ds (length ds - 1) 0 ≡ get_or (45 ∷ ds) (length (45 ∷ ds) - 1) 0
+last_after_minus ds h = ap (λ n. get_or ds n 0) (omega arith) ∙ sym (get_or-append_right (45 ∷ []) ds 1 (length (45 ∷ ds) - 1) 0 refl (omega arith))
+
 plain_signed : (z : ℤ) → Size (nat_abs z) → number_of (signed_decimal z) ≡ Some (z, pos 0)
 plain_signed (pos n) h =
     let first = first_decimal n h.0 (omega (arith, h.1)) in
     number_plain (decimal n) (last_digit n h) ∙ ap (option_map (λ a. (a, pos 0))) (plain_amount (decimal n) (λ e. omega arith) ∙ amount_signed (pos n) h)
 plain_signed (negsuc n) h =
-    number_plain (signed_decimal (negsuc n)) (λ e. last_digit (suc n) h (sym (last_cons 45 (decimal (suc n)) (some_digit (suc n) h)) ∙ e))
+    number_plain (signed_decimal (negsuc n)) (λ e. last_digit (suc n) h (last_after_minus (decimal (suc n)) (some_digit (suc n) h) ∙ e))
     ∙ ap (option_map (λ a. (a, pos 0))) (plain_amount (signed_decimal (negsuc n)) (λ e. omega arith) ∙ amount_signed (negsuc n) h)
 
 plain_zero : number_of (signed_decimal (pos 0)) ≡ Some (pos 0, pos 0)
@@ -87,9 +84,18 @@ with_index run =
 digit_true : (b : ℕ) → digit_value b < 10 → is_ascii_digit b ≡ true
 digit_true b h = let d = digit_from_value b h in and_from _ _ (le-leb 48 b d.0) (le-leb b 57 d.1)
 
+pub digits_pass : (p : ℕ → Bool) → ((b : ℕ) → digit_value b < 10 → p b ≡ true) → (ds : List ℕ) → AllDigits 10 ds → prefix_len p ds ≡ length ds
+digits_pass p f [] h = refl
+digits_pass p f (b ∷ ds) h = cond-true _ _ _ (f b h.0) ∙ omega (arith, digits_pass p f ds h.1)
+
+-- after bytes that pass, those that follow count
+pub passes_then : (p : ℕ → Bool) (xs rest : List ℕ) → prefix_len p xs ≡ length xs → prefix_len p (xs ++ rest) ≡ length xs + prefix_len p rest
+passes_then p xs rest h = prefix_len-append p xs rest ∙ cond-true _ _ _ (eq-eqb _ _ h)
+
 digits_then : (ds : List ℕ) (s : ℕ) (rest : List ℕ) → AllDigits 10 ds → is_ascii_digit s ≡ false → prefix_len is_ascii_digit (ds ++ (s ∷ rest)) ≡ length ds
-digits_then [] s rest h e = cond-false _ _ _ e
-digits_then (b ∷ ds) s rest h e = cond-true _ _ _ (digit_true b h.0) ∙ omega (arith, digits_then ds s rest h.1 e)
+digits_then ds s rest h e =
+    let stop : prefix_len is_ascii_digit (s ∷ rest) ≡ 0 = cond-false _ _ _ e in
+    omega (arith, passes_then is_ascii_digit ds (s ∷ rest) (digits_pass is_ascii_digit digit_true ds h))
 
 cut_digits : (ds : List ℕ) (s : ℕ) (rest : List ℕ) → 0 < length ds → AllDigits 10 ds → is_ascii_digit s ≡ false → length ds ≡ cut (ds ++ (s ∷ rest))
 cut_digits [] s rest p h e = absurd (omega arith)

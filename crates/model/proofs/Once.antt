@@ -2,50 +2,20 @@
 use Rattle.std.proofs.Common.{◌≡◌, ℕ, zero, suc, ◌≤◌, List, [], ◌∷◌, ◌++◌, replicate, sym, refl, ap, ◌∙◌, ap₂, append_assoc, append-nil, arith}
 use mathlib.Core.Path.{path_j}
 use Rattle.std.proofs.lemmas.List.{append_cancel_left}
-use Rattle.model.specs.declared.node.Placement.{Placement}
 use Rattle.model.specs.declared.node.Placement.TheVariants as by
-use Rattle.model.specs.declared.node.Operator.{Operator}
 use Rattle.model.specs.declared.node.Operator.TheVariants as op
 use Rattle.model.specs.declared.node.Linear.{Linear}
-use Rattle.model.specs.declared.word.Word.{Word}
-use Rattle.model.specs.declared.word.Word.TheVariants as w
 use Rattle.model.specs.declared.word.Mark.TheVariants.{Close}
 use Rattle.model.specs.Syntax.{Kind, Sort, one, many, num, Head, arity, Expr, Exprs, node, none, more, size, sizes}
 use Rattle.model.specs.Syntax as S
-use Rattle.model.specs.Tokens.{Token, word, number, mark, bracket, placement_word, operator_word, opening, closing, tokens, row}
+use Rattle.model.specs.Tokens.{Token, mark, bracket, opening, closing, tokens, row}
 use Rattle.model.specs.Readings.{OneReading}
-
--- nothing is, where 0 is 1
-pub clash : {A : Type 0} → ◌≡◌ {A = ℕ} 0 1 → A
-clash z = absurd (omega arith)
 
 pub next : {t u : Token} {xs ys : List Token} → t ∷ xs ≡ u ∷ ys → xs ≡ ys
 next e = cc
 
 next₂ : {t u v x : Token} {xs ys : List Token} → t ∷ u ∷ xs ≡ v ∷ x ∷ ys → xs ≡ ys
 next₂ e = cc
-
-placement : (t t' : Placement) → placement_word t ≡ placement_word t' → t ≡ t'
-placement by.Translate by.Translate q = refl
-placement by.Translate by.Scale q = clash (cc)
-placement by.Translate by.Rotate q = clash (cc)
-placement by.Scale by.Translate q = clash (cc)
-placement by.Scale by.Scale q = refl
-placement by.Scale by.Rotate q = clash (cc)
-placement by.Rotate by.Translate q = clash (cc)
-placement by.Rotate by.Scale q = clash (cc)
-placement by.Rotate by.Rotate q = refl
-
-operator : (o o' : Operator) → operator_word o ≡ operator_word o' → o ≡ o'
-operator op.Union op.Union q = refl
-operator op.Union op.Diff q = clash (cc)
-operator op.Union op.Inter q = clash (cc)
-operator op.Diff op.Union q = clash (cc)
-operator op.Diff op.Diff q = refl
-operator op.Diff op.Inter q = clash (cc)
-operator op.Inter op.Union q = clash (cc)
-operator op.Inter op.Diff q = clash (cc)
-operator op.Inter op.Inter q = refl
 
 linear : (a a' : Linear) (x x' : List Token) → bracket a ++ x ≡ bracket a' ++ x' → (a ≡ a') × (x ≡ x')
 linear a a' x x' q =
@@ -56,75 +26,6 @@ linear a a' x x' q =
     let sy : a.slope.y ≡ a'.slope.y = cc in
     let sz : a.slope.z ≡ a'.slope.z = cc in
     ((λ i. record { constant = record { x = cx i; y = cy i; z = cz i }; slope = record { x = sx i; y = sy i; z = sz i } }), cc)
-
--- a number for each form, by which its word tells it from the other forms of its sort
-rank_of : Word → ℕ
-rank_of w.Empty = 0
-rank_of w.Prim = 1
-rank_of w.Translate = 2
-rank_of w.Scale = 2
-rank_of w.Rotate = 2
-rank_of w.Union = 3
-rank_of w.Diff = 3
-rank_of w.Inter = 3
-rank_of w.Fold = 4
-rank_of w.List = 5
-rank_of w.Repeat = 6
-rank_of w.Tabulate = 7
-rank_of w.Concat = 8
-rank_of w.Sort = 9
-rank_of w.Unsort = 10
-rank_of w.Map2 = 11
-rank_of w.Index = 0
-
-second : List Token → ℕ
-second [] = 0
-second (word x ∷ ts) = rank_of x
-second (number a c ∷ ts) = 0
-second (mark m ∷ ts) = 0
-
-rank_in : List Token → ℕ
-rank_in [] = 0
-rank_in (word x ∷ ts) = 0
-rank_in (number a c ∷ ts) = 0
-rank_in (mark m ∷ ts) = second ts
-
-abbrev rank : {s : Sort} → Head s → ℕ
-rank S.empty = 0
-rank (S.prim k a) = 1
-rank (S.place t a) = 2
-rank (S.join o) = 3
-rank S.fold = 4
-rank (S.vec a) = 0
-rank (S.list n) = 5
-rank (S.repeat n) = 6
-rank (S.tab n) = 7
-rank S.concat = 8
-rank (S.sort n) = 9
-rank (S.unsort n) = 10
-rank (S.map2 t) = 11
-rank (S.number j) = 0
-
-ranked : {s : Sort} (h : Head s) (x : List Token) → rank_in (opening h ++ x) ≡ rank h
-unfolding rank_in second rank_of
-ranked S.empty x = refl
-ranked (S.prim k a) x = refl
-ranked (S.place by.Translate a) x = refl
-ranked (S.place by.Scale a) x = refl
-ranked (S.place by.Rotate a) x = refl
-ranked (S.join op.Union) x = refl
-ranked (S.join op.Diff) x = refl
-ranked (S.join op.Inter) x = refl
-ranked S.fold x = refl
-ranked (S.vec a) x = refl
-ranked (S.list n) x = refl
-ranked (S.repeat n) x = refl
-ranked (S.tab n) x = refl
-ranked S.concat x = refl
-ranked (S.sort n) x = refl
-ranked (S.unsort n) x = refl
-ranked (S.map2 t) x = refl
-ranked (S.number j) x = refl
 
 -- equal but for the number of parts, which an opening does not say
 abbrev Alike : {s : Sort} → Head s → Head s → Type 0
@@ -143,107 +44,49 @@ Alike (S.unsort n) h = (m : ℕ) × (S.unsort m ≡ h)
 Alike (S.map2 t) h = S.map2 t ≡ h
 Alike (S.number j) h = S.number j ≡ h
 
--- heads with equal openings are alike; those of different rank have none
-paired : {s : Sort} (h h' : Head s) (x x' : List Token) → rank h ≡ rank h' → opening h ++ x ≡ opening h' ++ x' → Alike h h' × (x ≡ x')
-paired S.empty S.empty x x' _ q = (refl, next q)
-paired S.empty (S.prim k' a') x x' p q = absurd (omega arith)
-paired S.empty (S.place t' a') x x' p q = absurd (omega arith)
-paired S.empty (S.join o') x x' p q = absurd (omega arith)
-paired S.empty S.fold x x' p q = absurd (omega arith)
-paired (S.prim k a) S.empty x x' p q = absurd (omega arith)
-paired (S.prim k a) (S.prim k' a') x x' _ q = let v = linear a a' x x' (next (next₂ q)) in let p : k ≡ k' = cc in ((λ i. S.prim (p i) (v.0 i)), v.1)
-paired (S.prim k a) (S.place t' a') x x' p q = absurd (omega arith)
-paired (S.prim k a) (S.join o') x x' p q = absurd (omega arith)
-paired (S.prim k a) S.fold x x' p q = absurd (omega arith)
-paired (S.place t a) S.empty x x' p q = absurd (omega arith)
-paired (S.place t a) (S.prim k' a') x x' p q = absurd (omega arith)
-paired (S.place t a) (S.place t' a') x x' _ q = let v = linear a a' x x' (next₂ q) in let p = placement t t' (cc) in ((λ i. S.place (p i) (v.0 i)), v.1)
-paired (S.place t a) (S.join o') x x' p q = absurd (omega arith)
-paired (S.place t a) S.fold x x' p q = absurd (omega arith)
-paired (S.join o) S.empty x x' p q = absurd (omega arith)
-paired (S.join o) (S.prim k' a') x x' p q = absurd (omega arith)
-paired (S.join o) (S.place t' a') x x' p q = absurd (omega arith)
-paired (S.join o) (S.join o') x x' _ q = (ap S.join (operator o o' (cc)), next₂ q)
-paired (S.join o) S.fold x x' p q = absurd (omega arith)
-paired S.fold S.empty x x' p q = absurd (omega arith)
-paired S.fold (S.prim k' a') x x' p q = absurd (omega arith)
-paired S.fold (S.place t' a') x x' p q = absurd (omega arith)
-paired S.fold (S.join o') x x' p q = absurd (omega arith)
-paired S.fold S.fold x x' _ q = (refl, next (next₂ q))
-paired (S.vec a) (S.vec a') x x' _ q = let v = linear a a' x x' q in (ap S.vec v.0, v.1)
-paired (S.list n) (S.list n') x x' _ q = ((n', refl), next₂ q)
-paired (S.list n) (S.repeat n') x x' p q = absurd (omega arith)
-paired (S.list n) (S.tab n') x x' p q = absurd (omega arith)
-paired (S.list n) S.concat x x' p q = absurd (omega arith)
-paired (S.list n) (S.sort n') x x' p q = absurd (omega arith)
-paired (S.list n) (S.unsort n') x x' p q = absurd (omega arith)
-paired (S.list n) (S.map2 t') x x' p q = absurd (omega arith)
-paired (S.repeat n) (S.list n') x x' p q = absurd (omega arith)
-paired (S.repeat n) (S.repeat n') x x' _ q = let p : n ≡ n' = cc in (ap S.repeat p, next (next₂ q))
-paired (S.repeat n) (S.tab n') x x' p q = absurd (omega arith)
-paired (S.repeat n) S.concat x x' p q = absurd (omega arith)
-paired (S.repeat n) (S.sort n') x x' p q = absurd (omega arith)
-paired (S.repeat n) (S.unsort n') x x' p q = absurd (omega arith)
-paired (S.repeat n) (S.map2 t') x x' p q = absurd (omega arith)
-paired (S.tab n) (S.list n') x x' p q = absurd (omega arith)
-paired (S.tab n) (S.repeat n') x x' p q = absurd (omega arith)
-paired (S.tab n) (S.tab n') x x' _ q = let p : n ≡ n' = cc in (ap S.tab p, next₂ (next₂ (next₂ q)))
-paired (S.tab n) S.concat x x' p q = absurd (omega arith)
-paired (S.tab n) (S.sort n') x x' p q = absurd (omega arith)
-paired (S.tab n) (S.unsort n') x x' p q = absurd (omega arith)
-paired (S.tab n) (S.map2 t') x x' p q = absurd (omega arith)
-paired S.concat (S.list n') x x' p q = absurd (omega arith)
-paired S.concat (S.repeat n') x x' p q = absurd (omega arith)
-paired S.concat (S.tab n') x x' p q = absurd (omega arith)
-paired S.concat S.concat x x' _ q = (refl, next₂ q)
-paired S.concat (S.sort n') x x' p q = absurd (omega arith)
-paired S.concat (S.unsort n') x x' p q = absurd (omega arith)
-paired S.concat (S.map2 t') x x' p q = absurd (omega arith)
-paired (S.sort n) (S.list n') x x' p q = absurd (omega arith)
-paired (S.sort n) (S.repeat n') x x' p q = absurd (omega arith)
-paired (S.sort n) (S.tab n') x x' p q = absurd (omega arith)
-paired (S.sort n) S.concat x x' p q = absurd (omega arith)
-paired (S.sort n) (S.sort n') x x' _ q = ((n', refl), next₂ q)
-paired (S.sort n) (S.unsort n') x x' p q = absurd (omega arith)
-paired (S.sort n) (S.map2 t') x x' p q = absurd (omega arith)
-paired (S.unsort n) (S.list n') x x' p q = absurd (omega arith)
-paired (S.unsort n) (S.repeat n') x x' p q = absurd (omega arith)
-paired (S.unsort n) (S.tab n') x x' p q = absurd (omega arith)
-paired (S.unsort n) S.concat x x' p q = absurd (omega arith)
-paired (S.unsort n) (S.sort n') x x' p q = absurd (omega arith)
-paired (S.unsort n) (S.unsort n') x x' _ q = ((n', refl), next₂ q)
-paired (S.unsort n) (S.map2 t') x x' p q = absurd (omega arith)
-paired (S.map2 t) (S.list n') x x' p q = absurd (omega arith)
-paired (S.map2 t) (S.repeat n') x x' p q = absurd (omega arith)
-paired (S.map2 t) (S.tab n') x x' p q = absurd (omega arith)
-paired (S.map2 t) S.concat x x' p q = absurd (omega arith)
-paired (S.map2 t) (S.sort n') x x' p q = absurd (omega arith)
-paired (S.map2 t) (S.unsort n') x x' p q = absurd (omega arith)
-paired (S.map2 t) (S.map2 t') x x' _ q = (ap S.map2 (placement t t' (cc)), next (next₂ q))
-paired (S.number j) (S.number j') x x' _ q = let p : j ≡ j' = cc in (ap S.number p, next q)
-
+-- heads with equal openings are alike
 alike : {s : Sort} (h h' : Head s) (x x' : List Token) → opening h ++ x ≡ opening h' ++ x' → Alike h h' × (x ≡ x')
-alike h h' x x' q = paired h h' x x' (sym (ranked h x) ∙ ap rank_in q ∙ ranked h' x') q
+alike S.empty S.empty x x' q = (refl, next q)
+alike (S.prim k a) (S.prim k' a') x x' q = let v = linear a a' x x' (next (next₂ q)) in let p : k ≡ k' = cc in ((λ i. S.prim (p i) (v.0 i)), v.1)
+alike (S.place by.Translate a) (S.place by.Translate a') x x' q = let v = linear a a' x x' (next₂ q) in (ap (S.place by.Translate) v.0, v.1)
+alike (S.place by.Scale a) (S.place by.Scale a') x x' q = let v = linear a a' x x' (next₂ q) in (ap (S.place by.Scale) v.0, v.1)
+alike (S.place by.Rotate a) (S.place by.Rotate a') x x' q = let v = linear a a' x x' (next₂ q) in (ap (S.place by.Rotate) v.0, v.1)
+alike (S.join op.Union) (S.join op.Union) x x' q = (refl, next₂ q)
+alike (S.join op.Diff) (S.join op.Diff) x x' q = (refl, next₂ q)
+alike (S.join op.Inter) (S.join op.Inter) x x' q = (refl, next₂ q)
+alike S.fold S.fold x x' q = (refl, next (next₂ q))
+alike (S.vec a) (S.vec a') x x' q = let v = linear a a' x x' q in (ap S.vec v.0, v.1)
+alike (S.list n) (S.list n') x x' q = ((n', refl), next₂ q)
+alike (S.repeat n) (S.repeat n') x x' q = let p : n ≡ n' = cc in (ap S.repeat p, next (next₂ q))
+alike (S.tab n) (S.tab n') x x' q = let p : n ≡ n' = cc in (ap S.tab p, next₂ (next₂ (next₂ q)))
+alike S.concat S.concat x x' q = (refl, next₂ q)
+alike (S.sort n) (S.sort n') x x' q = ((n', refl), next₂ q)
+alike (S.unsort n) (S.unsort n') x x' q = ((n', refl), next₂ q)
+alike (S.map2 by.Translate) (S.map2 by.Translate) x x' q = (refl, next (next₂ q))
+alike (S.map2 by.Scale) (S.map2 by.Scale) x x' q = (refl, next (next₂ q))
+alike (S.map2 by.Rotate) (S.map2 by.Rotate) x x' q = (refl, next (next₂ q))
+alike (S.number j) (S.number j') x x' q = let p : j ≡ j' = cc in (ap S.number p, next q)
+alike _ (S.place by.Translate a') x x' q = cc
+alike _ (S.place by.Scale a') x x' q = cc
+alike _ (S.place by.Rotate a') x x' q = cc
+alike _ (S.join op.Union) x x' q = cc
+alike _ (S.join op.Diff) x x' q = cc
+alike _ (S.join op.Inter) x x' q = cc
+alike _ (S.map2 by.Translate) x x' q = cc
+alike _ (S.map2 by.Scale) x x' q = cc
+alike _ (S.map2 by.Rotate) x x' q = cc
+alike _ _ x x' q = cc
 
 -- an element is no closing bracket, and a list is no number
 not_close : {k : Kind} (e : Expr (one k)) (x y : List Token) → tokens e ++ x ≡ mark Close ∷ y → ⊥
 unfolding tokens row
-not_close (node S.empty es) x y q = clash (cc)
-not_close (node (S.prim k a) es) x y q = clash (cc)
-not_close (node (S.place t a) es) x y q = clash (cc)
-not_close (node (S.join o) es) x y q = clash (cc)
-not_close (node S.fold es) x y q = clash (cc)
-not_close (node (S.vec a) es) x y q = clash (cc)
+not_close (node S.empty es) x y q = cc
+not_close (node _ es) x y q = cc
 
 not_number : {k : Kind} (l : Expr (many k)) (e : Expr num) (x y : List Token) → tokens l ++ x ≡ tokens e ++ y → ⊥
 unfolding tokens row
-not_number (node (S.list n) es) (node (S.number j) fs) x y q = clash (cc)
-not_number (node (S.repeat n) es) (node (S.number j) fs) x y q = clash (cc)
-not_number (node (S.tab n) es) (node (S.number j) fs) x y q = clash (cc)
-not_number (node S.concat es) (node (S.number j) fs) x y q = clash (cc)
-not_number (node (S.sort n) es) (node (S.number j) fs) x y q = clash (cc)
-not_number (node (S.unsort n) es) (node (S.number j) fs) x y q = clash (cc)
-not_number (node (S.map2 t) es) (node (S.number j) fs) x y q = clash (cc)
+not_number (node (S.list n) es) (node (S.number j) fs) x y q = cc
+not_number (node _ es) (node (S.number j) fs) x y q = cc
 
 -- a node's tokens with what follows, bracketed to the right
 pub spelled : {s : Sort} (h : Head s) (es : Exprs (arity h)) (r : List Token) → tokens (node h es) ++ r ≡ opening h ++ (row es ++ (closing h ++ r))
@@ -305,20 +148,10 @@ module _ (n : ℕ) (ih : (s : Sort) (e f : Expr s) (r r' : List Token) → size 
   fixed h h' es r r' a l = along h h h' es r r' a (agree h es r r' l)
 
   nodes : {s : Sort} (h h' : Head s) (es : Exprs (arity h)) (r r' : List Token) → Alike h h' → sizes es ≤ n → Agree h es r r' h'
-  nodes S.empty h' es r r' a l = fixed S.empty h' es r r' a l
-  nodes (S.prim k v) h' es r r' a l = fixed (S.prim k v) h' es r r' a l
-  nodes (S.place t v) h' es r r' a l = fixed (S.place t v) h' es r r' a l
-  nodes (S.join o) h' es r r' a l = fixed (S.join o) h' es r r' a l
-  nodes S.fold h' es r r' a l = fixed S.fold h' es r r' a l
-  nodes (S.vec v) h' es r r' a l = fixed (S.vec v) h' es r r' a l
   nodes (S.list {k} m) h' es r r' a l = along (S.list m) (S.list a.0) h' es r r' a.1 (λ fs q. let b = elements k m a.0 es fs r r' l q in ((λ i. node (S.list (b.0 i).0) (b.0 i).1), b.1))
-  nodes (S.repeat m) h' es r r' a l = fixed (S.repeat m) h' es r r' a l
-  nodes (S.tab m) h' es r r' a l = fixed (S.tab m) h' es r r' a l
-  nodes S.concat h' es r r' a l = fixed S.concat h' es r r' a l
   nodes (S.sort {k} m) h' es r r' a l = along (S.sort m) (S.sort a.0) h' es r r' a.1 (λ fs q. let b = orders k m a.0 es fs (mark Close ∷ r) (mark Close ∷ r') l q in ((λ i. node (S.sort (b.0 i).0) (b.0 i).1), next b.1))
   nodes (S.unsort {k} m) h' es r r' a l = along (S.unsort m) (S.unsort a.0) h' es r r' a.1 (λ fs q. let b = orders k m a.0 es fs (mark Close ∷ r) (mark Close ∷ r') l q in ((λ i. node (S.unsort (b.0 i).0) (b.0 i).1), next b.1))
-  nodes (S.map2 t) h' es r r' a l = fixed (S.map2 t) h' es r r' a l
-  nodes (S.number j) h' es r r' a l = fixed (S.number j) h' es r r' a l
+  nodes h h' es r r' a l = fixed h h' es r r' a l
 
 same_upto : (n : ℕ) (s : Sort) (e f : Expr s) (r r' : List Token) → size e ≤ n → tokens e ++ r ≡ tokens f ++ r' → (e ≡ f) × (r ≡ r')
 unfolding size sizes

@@ -1,20 +1,18 @@
 -- Lists in a proper order. Assumes nothing.
-use Rattle.std.proofs.Common.{◌≡◌, ℕ, zero, suc, ◌+◌, ◌*◌, ◌<◌, ◌≤◌, Bool, true, false, cond, eqb, ltb, List, [], ◌∷◌, map, length, get_or, sym, refl, ap, ◌∙◌, subst, ap₂, inl, inr, add-mul, one-mul, zero-mul, arith, ext_get_or, rules}
+use Rattle.std.proofs.Common.{◌≡◌, ℕ, zero, suc, ◌+◌, ◌*◌, ◌<◌, ◌≤◌, Bool, true, false, cond, eqb, ltb, List, [], ◌∷◌, map, length, get_or, sym, refl, ap, ◌∙◌, subst, ap₂, add-mul, one-mul, zero-mul, arith, ext_get_or}
 use lib.ListN.{length-map}
-use Rattle.std.proofs.lemmas.Bool.{cases_order, and_parts}
+use Rattle.std.proofs.lemmas.List.{get_or-map}
+use Rattle.std.proofs.lemmas.Bool.{and_parts, lt-ltb, eq-eqb}
 use Rattle.std.proofs.lemmas.Bool.Decides.{nat_tests}
 use Rattle.model.specs.Shapes.{place_of, sorted, unsorted}
-use Rattle.model.specs.Syntax.{Sort, Head, arity, empty, prim, place, join, fold, vec, list, repeat, tab, concat, sort, unsort, map2, number, Expr, Exprs, node, none, more, textual_head, textual, textuals}
+use Rattle.model.specs.Syntax.{Sort, Head, arity, sort, unsort, Expr, Exprs, node, none, more, textual_head, textual, textuals}
 use Rattle.model.specs.Orders.{times_in, Order, Proper, Ordered, AllOrdered}
 use Rattle.model.proofs.Sequences.{at_from, length_from}
 
 -- ---- a number of an order stands at its place, and only there
-eqb_same : (n : ℕ) → eqb n n ≡ true
-eqb_same n = grind (arith, nat_tests)
-
 member : (d k : ℕ) (p : List ℕ) → k < length p → 0 < times_in (get_or p k d) p
 member d k [] h = absurd (omega arith)
-member d zero (m ∷ p) h = rw (eqb_same m) (omega arith)
+member d zero (m ∷ p) h = rw (eq-eqb m m refl) (omega arith)
 member d (suc k) (m ∷ p) h = let r = member d k p (omega arith) in omega arith
 
 once_here : (d k : ℕ) (p : List ℕ) (b : Bool) → 0 < times_in (get_or p k d) p → cond b 1 0 + times_in (get_or p k d) p ≡ 1
@@ -24,20 +22,8 @@ once_here d k p false g e r = ap suc (r (omega arith))
 
 once : (d k : ℕ) (p : List ℕ) → k < length p → times_in (get_or p k d) p ≡ 1 → place_of (get_or p k d) p ≡ k
 once d k [] h e = absurd (omega arith)
-once d zero (m ∷ p) h e = rw (eqb_same m)
+once d zero (m ∷ p) h e = rw (eq-eqb m m refl)
 once d (suc k) (m ∷ p) h e = once_here d k p (eqb (get_or p k d) m) (member d k p (omega arith)) e (once d k p (omega arith))
-
-lt_ltb : (k n : ℕ) → k < n → ltb k n ≡ true
-lt_ltb k n h = grind (arith, nat_tests)
-
-ge_ltb : (k n : ℕ) → n ≤ k → ltb k n ≡ false
-ge_ltb k n h = grind (arith, nat_tests)
-
-eq_eqb : (k n : ℕ) → k ≡ n → eqb k n ≡ true
-eq_eqb k n h = grind (arith, nat_tests)
-
-ne_eqb : (k n : ℕ) → (k ≡ n → ⊥) → eqb k n ≡ false
-ne_eqb k n h = grind (arith, nat_tests)
 
 -- ---- sums over the numbers below n
 abbrev pub sum : List ℕ → ℕ
@@ -54,19 +40,7 @@ below f n [] = 0
 below f n (k ∷ p) = cond (ltb k n) (f k) 0 + below f n p
 
 below_one : (f : ℕ → ℕ) (k n : ℕ) → cond (ltb k (suc n)) (f k) 0 ≡ cond (ltb k n) (f k) 0 + cond (eqb n k) 1 0 * f n
-below_one f k n = elim (cases_order k n) [
-  | inl e ↦
-      ap (λ b. cond b (f k) 0) (lt_ltb k (suc n) (omega arith)) ∙ ap f e
-      ∙ sym (ap₂ (λ a b. cond a (f k) 0 + cond b 1 0 * f n) (ge_ltb k n (omega arith)) (eq_eqb n k (sym e)) ∙ omega (arith, one-mul (f n)))
-  | inr r ↦ elim r [
-    | inl h ↦
-        ap (λ b. cond b (f k) 0) (lt_ltb k (suc n) (omega arith))
-        ∙ sym (ap₂ (λ a b. cond a (f k) 0 + cond b 1 0 * f n) (lt_ltb k n h) (ne_eqb n k (λ e. omega arith)) ∙ omega (arith, zero-mul (f n)))
-    | inr h ↦
-        ap (λ b. cond b (f k) 0) (ge_ltb k (suc n) (omega arith))
-        ∙ sym (ap₂ (λ a b. cond a (f k) 0 + cond b 1 0 * f n) (ge_ltb k n (omega arith)) (ne_eqb n k (λ e. omega arith)) ∙ omega (arith, zero-mul (f n)))
-  ]
-]
+below_one f k n = let p : k ≡ n → f k ≡ f n = λ e. ap f e in grind (arith, nat_tests, one-mul (f n), zero-mul (f n), p)
 
 below_suc : (f : ℕ → ℕ) (n : ℕ) (p : List ℕ) → below f (suc n) p ≡ below f n p + times_in n p * f n
 unfolding below
@@ -76,7 +50,7 @@ below_suc f n (k ∷ p) = let a = below_one f k n in let b = below_suc f n p in 
 below_zero : (f : ℕ → ℕ) (p : List ℕ) → below f 0 p ≡ 0
 unfolding below
 below_zero f [] = refl
-below_zero f (k ∷ p) = let b = below_zero f p in omega (arith, ap (λ t. cond t (f k) 0) (ge_ltb k 0 (omega arith)))
+below_zero f (k ∷ p) = let b = below_zero f p in grind (arith, nat_tests)
 
 -- each number below n once: the sum over all of them
 below_all : (f : ℕ → ℕ) (n : ℕ) (p : List ℕ) → ((j : ℕ) → j < n → times_in j p ≡ 1) → below f n p ≡ sum_to f n
@@ -113,7 +87,7 @@ place_in_order p n o d k h = once d k p (let s = o.sized in omega arith) (o.each
 all_below : (f : ℕ → ℕ) (n : ℕ) (p : List ℕ) → ((k : ℕ) → k < length p → get_or p k 0 < n) → below f n p ≡ sum (map f p)
 unfolding below
 all_below f n [] h = refl
-all_below f n (k ∷ p) h = ap₂ ◌+◌ (ap (λ b. cond b (f k) 0) (lt_ltb k n (h 0 (omega arith)))) (all_below f n p (λ j u. h (suc j) (omega arith)))
+all_below f n (k ∷ p) h = ap₂ ◌+◌ (ap (λ b. cond b (f k) 0) (lt-ltb k n (h 0 (omega arith)))) (all_below f n p (λ j u. h (suc j) (omega arith)))
 
 sum_front : (f : ℕ → ℕ) (n : ℕ) → sum_to f (suc n) ≡ f 0 + sum_to (λ j. f (suc j)) n
 sum_front f zero = omega arith
@@ -129,11 +103,6 @@ sum_sorted d p l o =
     ∙ below_all (λ j. get_or l j d) (length l) p o.each ∙ sum_upto l d
 
 -- Sort undoes Unsort
-get_d_map_in : {A B : Type 0} (f : A → B) (l : List A) (k : ℕ) (a : A) (b : B) → k < length l → get_or (map f l) k b ≡ f (get_or l k a)
-get_d_map_in f [] k a b h = absurd (omega arith)
-get_d_map_in f (x ∷ l) zero a b h = refl
-get_d_map_in f (x ∷ l) (suc k) a b h = get_d_map_in f l k a b (omega arith)
-
 unsorted_at : {A : Type 0} (d : A) (p : List ℕ) (l : List A) (k : ℕ) → k < length p → get_or (unsorted d p l) k d ≡ get_or l (place_of k p) d
 unsorted_at d p l k h = at_from (λ j. get_or l (place_of j p) d) 0 (length p) k d h ∙ ap (λ m. get_or l (place_of m p) d) (omega arith)
 
@@ -145,7 +114,7 @@ sorted_unsorted d p l o =
     let s = o.sized in
     let u : k < length l = omega arith in
     let w = within p (length l) o 0 k u in
-    get_d_map_in (λ j. get_or (unsorted d p l) j d) p k 0 d (omega arith) ∙ unsorted_at d p l (get_or p k 0) (omega arith) ∙ ap (λ j. get_or l j d) (place_in_order p (length l) o 0 k u))
+    get_or-map (λ j. get_or (unsorted d p l) j d) p k 0 d (omega arith) ∙ unsorted_at d p l (get_or p k 0) (omega arith) ∙ ap (λ j. get_or l j d) (place_in_order p (length l) o 0 k u))
 
 pub sum_unsorted : (d : ℕ) (p l : List ℕ) → Order p (length l) → sum (unsorted d p l) ≡ sum l
 sum_unsorted d p l o =
@@ -155,20 +124,9 @@ sum_unsorted d p l o =
 
 -- ---- a program without Sort and Unsort has no order that could be wrong
 textual_proper : {s : Sort} (h : Head s) (es : Exprs (arity h)) → textual_head h ≡ true → Proper h es
-textual_proper empty es t = tt
-textual_proper (prim k v) es t = tt
-textual_proper (place u v) es t = tt
-textual_proper (join o) es t = tt
-textual_proper fold es t = tt
-textual_proper (vec v) es t = tt
-textual_proper (list n) es t = tt
-textual_proper (repeat n) es t = tt
-textual_proper (tab n) es t = tt
-textual_proper concat es t = tt
-textual_proper (sort n) es t = absurd (search rules)
-textual_proper (unsort n) es t = absurd (search rules)
-textual_proper (map2 u) es t = tt
-textual_proper (number j) es t = tt
+textual_proper (sort n) es t = cc
+textual_proper (unsort n) es t = cc
+textual_proper _ es t = tt
 
 mutual
   unfolding textual textuals Ordered AllOrdered

@@ -12,7 +12,6 @@ use Rattle.model.specs.Tokens.{Token}
 use Rattle.model.specs.Feed.{end}
 use Rattle.model.specs.Grammar.{Goal, Move, stuck, on, node, move, moved, run, room, Outcome, whole, refused}
 use Rattle.model.specs.Readings.{alone, firsts, first_over, RoomFor, FirstStop, FirstBad, FirstOver}
-use Rattle.model.proofs.Once.{clash}
 use Rattle.model.proofs.Back.{ended, exact}
 use Rattle.model.proofs.Stops.{fed, start, Passes, goes_on, halt, judged_told}
 
@@ -22,7 +21,7 @@ place j = record { at = j; len = 0 }
 
 ended_over : (o : Option ℕ) (n j : ℕ) → ended place o (whole n) ≡ refused (TooLarge (place j)) → o ≡ some j
 unfolding place
-ended_over O.none n j q = clash (cc)
+ended_over O.none n j q = cc
 ended_over (some k) n j q = let p : place k ≡ place j = cc in ap (λ s. some s.at) p
 
 pub over_first : FirstOver
@@ -45,7 +44,7 @@ over_first f s p =
 
 late_by : (m : Move) (go : List Goal → ℕ → Outcome) (n k : ℕ) (s : Span) → ((hs : List Goal) (l : ℕ) → go hs l ≡ refused (TooLarge s) → k ≤ s.at) → moved m go n (place k) ≡ refused (TooLarge s) → k ≤ s.at
 unfolding place
-late_by stuck go n k s later q = clash (cc)
+late_by stuck go n k s later q = cc
 late_by (on hs) go n k s later q = later hs n q
 late_by (node d hs) go n k s later q =
     cond_both (room d n) (go hs (n + 1)) (refused (TooLarge (place k))) (λ o. o ≡ refused (TooLarge s) → k ≤ s.at)
@@ -54,10 +53,9 @@ late_by (node d hs) go n k s later q =
 -- a limit is passed no earlier than at the first token
 late : (r : List Token) (gs : List Goal) (n k : ℕ) (s : Span) → run (fed place k r (end 0)) gs n ≡ refused (TooLarge s) → k ≤ s.at
 unfolding place
-late [] [] n k s q = clash (cc)
-late [] (g ∷ gs) n k s q = clash (cc)
-late (t ∷ r) [] n k s q = clash (cc)
+late [] [] n k s q = cc
 late (t ∷ r) (g ∷ gs) n k s q = late_by (move g gs t) (run (fed place (suc k) r (end 0))) n k s (λ hs m p. let l = late r hs m (suc k) s p in omega arith) q
+late _ _ n k s q = cc
 
 passes_room : (us : List Token) → Passes us start 0 → RoomFor us
 unfolding place

@@ -72,30 +72,11 @@ inner s gs us us' p q = subst (Inner s gs) (sym p) q
 -- which mark or word a goal was moved on by
 by_mark : (n m : Mark) (x : Move) (us : List Token) → After (if_mark n m x) us → (n ≡ m) × After x us
 by_mark Open Open x us h = (refl, h)
-by_mark Open Close x us h = absurd h
-by_mark Open Left x us h = absurd h
-by_mark Open Right x us h = absurd h
-by_mark Open Comma x us h = absurd h
-by_mark Close Open x us h = absurd h
 by_mark Close Close x us h = (refl, h)
-by_mark Close Left x us h = absurd h
-by_mark Close Right x us h = absurd h
-by_mark Close Comma x us h = absurd h
-by_mark Left Open x us h = absurd h
-by_mark Left Close x us h = absurd h
 by_mark Left Left x us h = (refl, h)
-by_mark Left Right x us h = absurd h
-by_mark Left Comma x us h = absurd h
-by_mark Right Open x us h = absurd h
-by_mark Right Close x us h = absurd h
-by_mark Right Left x us h = absurd h
 by_mark Right Right x us h = (refl, h)
-by_mark Right Comma x us h = absurd h
-by_mark Comma Open x us h = absurd h
-by_mark Comma Close x us h = absurd h
-by_mark Comma Left x us h = absurd h
-by_mark Comma Right x us h = absurd h
 by_mark Comma Comma x us h = (refl, h)
+by_mark _ _ x us h = absurd h
 
 by_zero : (c : ℤ) (gs : List Goal) (us : List Token) → After (if_zero c (on gs)) us → (c ≡ pos 0) × GenAll gs us
 by_zero (pos zero) gs us h = (refl, h)
@@ -104,22 +85,7 @@ by_zero (negsuc n) gs us h = absurd h
 
 unranked : (x : Word) → get_or words (rank x) w.Empty ≡ x
 unranked w.Empty = refl
-unranked w.Prim = refl
-unranked w.Translate = refl
-unranked w.Scale = refl
-unranked w.Rotate = refl
-unranked w.Union = refl
-unranked w.Diff = refl
-unranked w.Inter = refl
-unranked w.Fold = refl
-unranked w.List = refl
-unranked w.Repeat = refl
-unranked w.Tabulate = refl
-unranked w.Concat = refl
-unranked w.Sort = refl
-unranked w.Unsort = refl
-unranked w.Map2 = refl
-unranked w.Index = refl
+unranked _ = refl
 
 by_word : (x y : Word) (m : Move) (us : List Token) → After (if_word x y m) us → (x ≡ y) × After m us
 by_word x y m us h = go (eqb (rank x) (rank y)) refl h
@@ -129,23 +95,10 @@ by_word x y m us h = go (eqb (rank x) (rank y)) refl h
     go false q h = absurd h
 
 by_placement : (x : Word) (gs : List Goal) (us : List Token) → After (at_placement x gs) us → (t : Placement) × (x ≡ placement_word t) × GenAll gs us
-by_placement w.Empty gs us h = absurd h
-by_placement w.Prim gs us h = absurd h
 by_placement w.Translate gs us h = (by.Translate, refl, h)
 by_placement w.Scale gs us h = (by.Scale, refl, h)
 by_placement w.Rotate gs us h = (by.Rotate, refl, h)
-by_placement w.Union gs us h = absurd h
-by_placement w.Diff gs us h = absurd h
-by_placement w.Inter gs us h = absurd h
-by_placement w.Fold gs us h = absurd h
-by_placement w.List gs us h = absurd h
-by_placement w.Repeat gs us h = absurd h
-by_placement w.Tabulate gs us h = absurd h
-by_placement w.Concat gs us h = absurd h
-by_placement w.Sort gs us h = absurd h
-by_placement w.Unsort gs us h = absurd h
-by_placement w.Map2 gs us h = absurd h
-by_placement w.Index gs us h = absurd h
+by_placement _ gs us h = absurd h
 
 prim_back : (d : ℕ) (gs : List Goal) (us : List Token) → GenAll (plain ∷ mark Left ∷ entries (mark Close ∷ gs)) us → Inner (one solid) gs (T.word w.Prim ∷ us)
 prim_back d gs us h =
@@ -159,7 +112,6 @@ place_back t d gs us h =
     inner (one solid) gs _ _ (ap (λ l. T.word (placement_word t) ∷ l) (h.1 ∙ b.2)) (closed (S.place t b.0) d gs b.1 refl tt refl b.3)
 
 solid_back : (d : ℕ) (gs : List Goal) (x : Word) (us : List Token) → After (after_solid_word d gs x) us → Inner (one solid) gs (T.word x ∷ us)
-solid_back d gs w.Empty us h = absurd h
 solid_back d gs w.Prim us h = prim_back d gs us h
 solid_back d gs w.Translate us h = place_back by.Translate d gs us h
 solid_back d gs w.Scale us h = place_back by.Scale d gs us h
@@ -168,14 +120,7 @@ solid_back d gs w.Union us h = closed (S.join op.Union) d gs us refl tt refl h
 solid_back d gs w.Diff us h = closed (S.join op.Diff) d gs us refl tt refl h
 solid_back d gs w.Inter us h = closed (S.join op.Inter) d gs us refl tt refl h
 solid_back d gs w.Fold us h = inner (one solid) gs _ _ (ap (λ l. T.word w.Fold ∷ l) h.1) (closed S.fold d gs h.0 refl tt refl h.2)
-solid_back d gs w.List us h = absurd h
-solid_back d gs w.Repeat us h = absurd h
-solid_back d gs w.Tabulate us h = absurd h
-solid_back d gs w.Concat us h = absurd h
-solid_back d gs w.Sort us h = absurd h
-solid_back d gs w.Unsort us h = absurd h
-solid_back d gs w.Map2 us h = absurd h
-solid_back d gs w.Index us h = absurd h
+solid_back d gs _ us h = absurd h
 
 tab_back : (k : Kind) (d : ℕ) (gs : List Goal) (us : List Token) → GenAll (mark Open ∷ index ∷ plain ∷ mark Close ∷ element k d ∷ mark Close ∷ gs) us → Inner (many k) gs (T.word w.Tabulate ∷ us)
 tab_back k d gs us h =
@@ -196,35 +141,22 @@ listed k d gs us h =
     (h.0, (node (S.list e.0) e.1, e.2, ap (λ l. T.mark Open ∷ T.word w.List ∷ l) e.3 ∙ sym (spelled (S.list e.0) e.1 h.0)), h.2)
 
 list_back : (k : Kind) (d : ℕ) (gs : List Goal) (x : Word) (us : List Token) → After (after_list_word k d gs x) us → Inner (many k) gs (T.word x ∷ us)
-list_back k d gs w.Empty us h = absurd h
-list_back k d gs w.Prim us h = absurd h
-list_back k d gs w.Translate us h = absurd h
-list_back k d gs w.Scale us h = absurd h
-list_back k d gs w.Rotate us h = absurd h
-list_back k d gs w.Union us h = absurd h
-list_back k d gs w.Diff us h = absurd h
-list_back k d gs w.Inter us h = absurd h
-list_back k d gs w.Fold us h = absurd h
 list_back k d gs w.List us h = listed k d gs us h
 list_back k d gs w.Repeat us h = inner (many k) gs _ _ (ap (λ l. T.word w.Repeat ∷ l) h.1.1) (closed (S.repeat h.1.0) d gs h.0 refl tt refl h.2)
 list_back k d gs w.Tabulate us h = tab_back k d gs us h
 list_back k d gs w.Concat us h = closed S.concat d gs us refl tt refl h
-list_back k d gs w.Sort us h = absurd h
-list_back k d gs w.Unsort us h = absurd h
 list_back k d gs w.Map2 us h = map2_back k d gs us h
-list_back k d gs w.Index us h = absurd h
+list_back k d gs _ us h = absurd h
 
 element_back : (k : Kind) (d : ℕ) (gs : List Goal) (t : Token) (us : List Token) → After (at_element k d gs t) us → GenAll (element k d ∷ gs) (t ∷ us)
 unfolding tokens row textual textuals
 element_back solid d gs (T.word x) us h = let b = by_word x w.Empty (G.node d gs) us h in (us, (node S.empty none, refl, ap (λ y. T.word y ∷ us) b.0), b.1)
-element_back solid d gs (T.number a c) us h = absurd h
 element_back solid d gs (T.mark m) us h = let b = by_mark Open m (G.node d (in_solid (d - 1) ∷ gs)) us h in subst (λ y. GenAll (element solid d ∷ gs) (T.mark y ∷ us)) b.0 b.1
-element_back vector d gs (T.word x) us h = absurd h
-element_back vector d gs (T.number a c) us h = absurd h
 element_back vector d gs (T.mark m) us h =
     let b = by_mark Left m (G.node d (entries gs)) us h in
     let v = bracket_back gs us b.1 in
     subst (λ y. GenAll (element vector d ∷ gs) (T.mark y ∷ us)) b.0 (v.1, (node (S.vec v.0) none, refl, v.2), v.3)
+element_back _ d gs _ us h = absurd h
 
 -- an element with the elements after it
 joined : (k : Kind) (d : ℕ) (gs : List Goal) (us : List Token) → GenAll (element k d ∷ elements k d ∷ gs) us → GenAll (elements k d ∷ gs) us
@@ -236,45 +168,24 @@ joined k d gs us h =
 
 elements_mark : (k : Kind) (d : ℕ) (gs : List Goal) (m : Mark) (us : List Token) → After (move (elements k d) gs (T.mark m)) us → GenAll (elements k d ∷ gs) (T.mark m ∷ us)
 unfolding tokens row textual textuals
-elements_mark k d gs Open us h = joined k d gs _ (element_back k d (elements k d ∷ gs) (T.mark Open) us h)
 elements_mark k d gs Close us h = (us, (zero, none, refl, refl), h)
-elements_mark k d gs Left us h = joined k d gs _ (element_back k d (elements k d ∷ gs) (T.mark Left) us h)
-elements_mark k d gs Right us h = joined k d gs _ (element_back k d (elements k d ∷ gs) (T.mark Right) us h)
-elements_mark k d gs Comma us h = joined k d gs _ (element_back k d (elements k d ∷ gs) (T.mark Comma) us h)
+elements_mark k d gs m us h = joined k d gs _ (element_back k d (elements k d ∷ gs) (T.mark m) us h)
 
 -- and a token that moves goals on begins what they stand for
 pub back : (g : Goal) (gs : List Goal) (t : Token) (us : List Token) → After (move g gs t) us → GenAll (g ∷ gs) (t ∷ us)
 back (element k d) gs t us h = element_back k d gs t us h
-back (list k d) gs (T.word x) us h = absurd h
-back (list k d) gs (T.number a c) us h = absurd h
 back (list k d) gs (T.mark m) us h = let b = by_mark Open m (G.node d (in_list k (d - 1) ∷ gs)) us h in subst (λ y. GenAll (list k d ∷ gs) (T.mark y ∷ us)) b.0 b.1
 back (in_solid d) gs (T.word x) us h = solid_back d gs x us h
-back (in_solid d) gs (T.number a c) us h = absurd h
-back (in_solid d) gs (T.mark m) us h = absurd h
 back (in_list k d) gs (T.word x) us h = list_back k d gs x us h
-back (in_list k d) gs (T.number a c) us h = absurd h
-back (in_list k d) gs (T.mark m) us h = absurd h
 back (elements k d) gs (T.word x) us h = joined k d gs _ (element_back k d (elements k d ∷ gs) (T.word x) us h)
-back (elements k d) gs (T.number a c) us h = absurd h
 back (elements k d) gs (T.mark m) us h = elements_mark k d gs m us h
-back (mark n) gs (T.word x) us h = absurd h
-back (mark n) gs (T.number a c) us h = absurd h
 back (mark n) gs (T.mark m) us h = let b = by_mark n m (on gs) us h in (us, ap (λ y. T.mark y ∷ us) (sym b.0), b.1)
 back union gs (T.word x) us h = let b = by_word x w.Union (on gs) us h in (us, ap (λ y. T.word y ∷ us) b.0, b.1)
-back union gs (T.number a c) us h = absurd h
-back union gs (T.mark m) us h = absurd h
 back index gs (T.word x) us h = let b = by_word x w.Index (on gs) us h in (us, ap (λ y. T.word y ∷ us) b.0, b.1)
-back index gs (T.number a c) us h = absurd h
-back index gs (T.mark m) us h = absurd h
 back placement gs (T.word x) us h = let b = by_placement x gs us h in (us, (b.0, ap (λ y. T.word y ∷ us) b.1), b.2)
-back placement gs (T.number a c) us h = absurd h
-back placement gs (T.mark m) us h = absurd h
-back plain gs (T.word x) us h = absurd h
 back plain gs (T.number a c) us h = let b = by_zero c gs us h in (us, (a, ap (λ y. T.number a y ∷ us) b.0), b.1)
-back plain gs (T.mark m) us h = absurd h
-back entry gs (T.word x) us h = absurd h
 back entry gs (T.number a c) us h = (us, (a, c, refl), h)
-back entry gs (T.mark m) us h = absurd h
+back _ gs _ us h = absurd h
 
 -- the shortest parts
 nought : Linear

@@ -6,7 +6,6 @@ use Rattle.std.specs.Char.{is_ascii_alphabetic, digit_value}
 use Rattle.std.specs.Fmt.{signed_decimal}
 use Rattle.std.specs.List.{prefix_len, AllByRecursion}
 use Rattle.std.proofs.lemmas.Fmt.{decimal_is_IsNumeral}
-use Rattle.std.proofs.ByRecursion.{All-append}
 use Rattle.std.proofs.lemmas.List.{get_or_at, take_at, drop_at, length-append}
 use Rattle.std.proofs.lemmas.Str.Parse.{digit_from_value}
 use Rattle.std.proofs.lemmas.Bool.{cond-true, cond-false, cond_both, and_from, or_left, le-leb}
@@ -15,7 +14,7 @@ use Rattle.model.specs.declared.refusal.Span.{Span}
 use Rattle.model.specs.declared.word.Word.{Word}
 use Rattle.model.specs.declared.word.Word.TheVariants as w
 use Rattle.model.specs.declared.word.Mark.{Mark}
-use Rattle.model.specs.declared.word.Mark.TheVariants.{Open, Close, Left, Right, Comma}
+use Rattle.model.specs.declared.word.Mark.TheVariants.{Open}
 use Rattle.model.specs.Bytes.{is_sep, in_word, starts_number, in_number, mark_byte, spelling, word_of, mark_of, number_of, is_zero, change, numeral, Small}
 use Rattle.model.specs.Feed.{Feed, said, Clean}
 use Rattle.model.specs.Lexing.{got, run, stands, number_token, word_at, number_at, token_at, past_seps, fed, feed, SmallToken}
@@ -23,36 +22,18 @@ use Rattle.model.specs.Spelling.{spell_token, tight_after, tight_before, gap, sp
 use Rattle.model.specs.Tokens.{Token, word, number, mark}
 use Rattle.model.specs.Written.{LexesBack}
 use Rattle.model.proofs.Feeds.{feed_end, feed_token}
-use Rattle.model.proofs.Numerals.{number_back}
+use Rattle.model.proofs.Numerals.{number_back, digits_pass, passes_then}
 use Rattle.model.proofs.Words.{word_back}
 
 -- each byte passes
 abbrev Pass : (ℕ → Bool) → List ℕ → Type 0
-Pass p xs = AllByRecursion (λ b. p b ≡ true) xs
-
--- no byte, or a first one that does not pass
-abbrev Stops : (ℕ → Bool) → List ℕ → Type 0
-Stops p [] = Unit {0}
-Stops p (b ∷ bs) = p b ≡ false
-
-leading_pass : (p : ℕ → Bool) (xs rest : List ℕ) → Pass p xs → Stops p rest → prefix_len p (xs ++ rest) ≡ length xs
-leading_pass p [] [] h e = refl
-leading_pass p [] (b ∷ bs) h e = cond-false _ _ _ e
-leading_pass p (x ∷ xs) rest h e = cond-true _ _ _ h.0 ∙ omega (arith, leading_pass p xs rest h.1 e)
-
-pass_leading : (p : ℕ → Bool) (xs : List ℕ) → prefix_len p xs ≡ length xs → Pass p xs
-pass_leading p [] h = tt
-pass_leading p (x ∷ xs) h = go (p x) refl h (pass_leading p xs)
-  where
-    go : (b : Bool) → p x ≡ b → cond b (1 + prefix_len p xs) 0 ≡ suc (length xs) → (prefix_len p xs ≡ length xs → Pass p xs) → Pass p (x ∷ xs)
-    go true e h rest = (e, rest (omega arith))
-    go false e h rest = absurd (omega arith)
+Pass p xs = prefix_len p xs ≡ length xs
 
 -- bytes that pass, up to one that does not, are the longest run
-run_pass : (p : ℕ → Bool) (pre xs rest : List ℕ) → Pass p xs → Stops p rest → run p (pre ++ (xs ++ rest)) (length pre) ≡ xs
+run_pass : (p : ℕ → Bool) (pre xs rest : List ℕ) → Pass p xs → prefix_len p rest ≡ 0 → run p (pre ++ (xs ++ rest)) (length pre) ≡ xs
 run_pass p pre xs rest h e =
     ap (λ l. take (prefix_len p l) l) (drop_at pre (xs ++ rest) (length pre) refl)
-    ∙ take_at xs rest (prefix_len p (xs ++ rest)) (sym (leading_pass p xs rest h e))
+    ∙ take_at xs rest (prefix_len p (xs ++ rest)) (let n = passes_then p xs rest h in omega arith)
 
 -- the first byte of a run
 front : (pre xs rest : List ℕ) → 0 < length xs → get_or (pre ++ (xs ++ rest)) (length pre) 0 ≡ get_or xs 0 0
@@ -60,24 +41,9 @@ front pre [] rest h = absurd (omega arith)
 front pre (x ∷ xs) rest h = get_or_at pre x (xs ++ rest) 0 (length pre) refl
 
 -- a word's bytes go on as a word, and its first is a letter
-word_bytes : (x : Word) → (prefix_len in_word (spelling x) ≡ length (spelling x)) × (is_ascii_alphabetic (get_or (spelling x) 0 0) ≡ true) × (0 < length (spelling x))
+word_bytes : (x : Word) → Pass in_word (spelling x) × (is_ascii_alphabetic (get_or (spelling x) 0 0) ≡ true) × (0 < length (spelling x))
 word_bytes w.Empty = (refl, refl, omega arith)
-word_bytes w.Prim = (refl, refl, omega arith)
-word_bytes w.Translate = (refl, refl, omega arith)
-word_bytes w.Scale = (refl, refl, omega arith)
-word_bytes w.Rotate = (refl, refl, omega arith)
-word_bytes w.Union = (refl, refl, omega arith)
-word_bytes w.Diff = (refl, refl, omega arith)
-word_bytes w.Inter = (refl, refl, omega arith)
-word_bytes w.Fold = (refl, refl, omega arith)
-word_bytes w.List = (refl, refl, omega arith)
-word_bytes w.Repeat = (refl, refl, omega arith)
-word_bytes w.Tabulate = (refl, refl, omega arith)
-word_bytes w.Concat = (refl, refl, omega arith)
-word_bytes w.Sort = (refl, refl, omega arith)
-word_bytes w.Unsort = (refl, refl, omega arith)
-word_bytes w.Map2 = (refl, refl, omega arith)
-word_bytes w.Index = (refl, refl, omega arith)
+word_bytes _ = (refl, refl, omega arith)
 
 -- bytes that go on as a number, the first of which starts one
 abbrev Digital : List ℕ → Type 0
@@ -89,35 +55,32 @@ digit_passes b h =
     let digit = and_from _ _ (le-leb 48 b d.0) (le-leb b 57 d.1) in
     (or_left _ _ digit, or_left _ _ digit)
 
-digits_pass : (ds : List ℕ) → AllDigits 10 ds → Pass in_number ds
-digits_pass [] h = tt
-digits_pass (b ∷ ds) h = ((digit_passes b h.0).1, digits_pass ds h.1)
-
 digital_digits : (ds : List ℕ) → 0 < length ds → AllDigits 10 ds → Digital ds
 digital_digits [] p h = absurd (omega arith)
-digital_digits (b ∷ ds) p h = (p, (digit_passes b h.0).0, digits_pass (b ∷ ds) h)
+digital_digits (b ∷ ds) p h = (p, (digit_passes b h.0).0, digits_pass in_number (λ c d. (digit_passes c d).1) (b ∷ ds) h)
 
 digital_decimal : (n : ℕ) → n ≤ 9999999 → Digital (decimal n)
 digital_decimal n h = let d = (decimal_is_IsNumeral n (omega arith)).0 in digital_digits (decimal n) d.0 d.1
 
 digital_signed : (z : ℤ) → Small z → Digital (signed_decimal z)
 digital_signed (pos n) h = digital_decimal n h
-digital_signed (negsuc n) h = (omega arith, refl, (refl, (digital_decimal (suc n) h).2))
+digital_signed (negsuc n) h = (omega arith, refl, omega (arith, (digital_decimal (suc n) h).2))
 
 change_passes : (z : ℤ) → Small z → Pass in_number (change z)
-change_passes (pos n) h = (refl, (digital_decimal n h).2)
-change_passes (negsuc n) h = (refl, (digital_decimal (suc n) h).2)
+change_passes (pos n) h = omega (arith, (digital_decimal n h).2)
+change_passes (negsuc n) h = omega (arith, (digital_decimal (suc n) h).2)
 
 digital_append : (xs ys : List ℕ) → Digital xs → Pass in_number ys → Digital (xs ++ ys)
 digital_append xs ys h k =
-    (omega (arith, h.0, length-append xs ys), ap starts_number (front [] xs ys h.0) ∙ h.1, All-append (λ b. in_number b ≡ true) xs ys h.2 k)
+    let long = length-append xs ys in
+    (omega (arith, h.0), ap starts_number (front [] xs ys h.0) ∙ h.1, omega (arith, passes_then in_number xs ys h.2))
 
 digital_numeral : (a c : ℤ) → Small a → Small c → Digital (numeral a c)
 digital_numeral a c h k =
     cond_both (is_zero c) (signed_decimal a) _ Digital (λ _. digital_signed a h)
     (λ _. digital_append _ (105 ∷ [])
     (cond_both (is_zero a) (signed_decimal c) _ Digital (λ _. digital_signed c k) (λ _. digital_append (signed_decimal a) (change c) (digital_signed a h) (change_passes c k)))
-    (refl, tt))
+    refl)
 
 -- what starts a number is no letter and no separator
 no_letter : (b : ℕ) → starts_number b ≡ true → is_ascii_alphabetic b ≡ false
@@ -134,24 +97,21 @@ begins : (t : Token) → SmallToken t → (0 < length (spell_token t)) × (is_se
 begins (word x) h = let b = word_bytes x in (b.2, letter_apart (get_or (spelling x) 0 0) b.1)
 begins (number a c) h = let d = digital_numeral a c h.0 h.1 in (d.0, number_apart (get_or (numeral a c) 0 0) d.1)
 begins (mark Open) h = (omega arith, refl)
-begins (mark Close) h = (omega arith, refl)
-begins (mark Left) h = (omega arith, refl)
-begins (mark Right) h = (omega arith, refl)
-begins (mark Comma) h = (omega arith, refl)
+begins (mark _) h = (omega arith, refl)
 
 -- a token that stands at byte s with its own bytes
 abbrev here : Token → ℕ → Span
 here t s = record { at = s; len = length (spell_token t) }
 
-token_word : (x : Word) (pre rest : List ℕ) → Stops in_word rest → token_at (pre ++ (spelling x ++ rest)) (length pre) ≡ got (word x) (here (word x) (length pre))
+token_word : (x : Word) (pre rest : List ℕ) → prefix_len in_word rest ≡ 0 → token_at (pre ++ (spelling x ++ rest)) (length pre) ≡ got (word x) (here (word x) (length pre))
 token_word x pre rest e =
     let b = word_bytes x in
     let s = length pre in
     cond-true _ _ _ (ap is_ascii_alphabetic (front pre (spelling x) rest b.2) ∙ b.1)
-    ∙ ap (λ r. stands (option_map word (word_of r)) s (length r)) (run_pass in_word pre (spelling x) rest (pass_leading in_word (spelling x) b.0) e)
+    ∙ ap (λ r. stands (option_map word (word_of r)) s (length r)) (run_pass in_word pre (spelling x) rest b.0 e)
     ∙ ap (λ o. stands (option_map word o) s (length (spelling x))) (word_back x)
 
-token_number : (a c : ℤ) (pre rest : List ℕ) → Small a → Small c → Stops in_number rest → token_at (pre ++ (numeral a c ++ rest)) (length pre) ≡ got (number a c) (here (number a c) (length pre))
+token_number : (a c : ℤ) (pre rest : List ℕ) → Small a → Small c → prefix_len in_number rest ≡ 0 → token_at (pre ++ (numeral a c ++ rest)) (length pre) ≡ got (number a c) (here (number a c) (length pre))
 token_number a c pre rest h k e =
     let d = digital_numeral a c h k in
     let s = length pre in
@@ -170,21 +130,15 @@ token_mark m pre rest =
   where
     known : (t : List ℕ) (s : ℕ) (m : Mark) → cond (is_ascii_alphabetic (mark_byte m)) (word_at t s) (cond (starts_number (mark_byte m)) (number_at t s) (stands (option_map mark (mark_of (mark_byte m))) s 1)) ≡ got (mark m) (record { at = s; len = 1 })
     known t s Open = refl
-    known t s Close = refl
-    known t s Left = refl
-    known t s Right = refl
-    known t s Comma = refl
+    known t s _ = refl
 
 -- no run goes on into what is written after a word or a number
-stops : (ts : List Token) → Stops in_word (spells false ts) × Stops in_number (spells false ts)
-stops [] = (tt, tt)
+stops : (ts : List Token) → (prefix_len in_word (spells false ts) ≡ 0) × (prefix_len in_number (spells false ts) ≡ 0)
+stops [] = (refl, refl)
 stops (word x ∷ ts) = (refl, refl)
 stops (number a c ∷ ts) = (refl, refl)
 stops (mark Open ∷ ts) = (refl, refl)
-stops (mark Close ∷ ts) = (refl, refl)
-stops (mark Left ∷ ts) = (refl, refl)
-stops (mark Right ∷ ts) = (refl, refl)
-stops (mark Comma ∷ ts) = (refl, refl)
+stops (mark _ ∷ ts) = (refl, refl)
 
 token_back : (t : Token) (ts : List Token) (pre : List ℕ) → SmallToken t → token_at (pre ++ (spell_token t ++ spells (tight_after t) ts)) (length pre) ≡ got t (here t (length pre))
 token_back (word x) ts pre h = token_word x pre (spells false ts) (stops ts).0

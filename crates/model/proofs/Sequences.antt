@@ -1,5 +1,6 @@
 -- Lists of what expressions come to. Assumes nothing.
 use Rattle.std.proofs.Common.{◌≡◌, ℕ, zero, suc, ◌+◌, ◌<◌, min, List, [], ◌∷◌, ◌++◌, length, get_or, replicate, refl, ap, ◌∙◌, arith}
+use Rattle.std.proofs.lemmas.List.{get_or-replicate, get_or_append_left, get_or-append-add}
 use Rattle.model.specs.Shapes.{from, zip_with}
 
 pub length_from : {A : Type 0} (f : ℕ → A) (i n : ℕ) → length (from f i n) ≡ n
@@ -18,22 +19,16 @@ at_from f i (suc n) zero d h = ap f (omega arith)
 at_from f i (suc n) (suc k) d h = at_from f (suc i) n k d (omega arith) ∙ ap f (omega arith)
 
 pub at_replicate : {A : Type 0} (n k : ℕ) (a d : A) → k < n → get_or (replicate n a) k d ≡ a
-at_replicate zero k a d h = absurd (omega arith)
-at_replicate (suc n) zero a d h = refl
-at_replicate (suc n) (suc k) a d h = at_replicate n k a d (omega arith)
+at_replicate n k a d h = get_or-replicate n k a d h
 
 pub at_zip : {A B C : Type 0} (f : A → B → C) (l : List A) (m : List B) (k : ℕ) (a : A) (b : B) (c : C) → k < length l → k < length m
     → get_or (zip_with f l m) k c ≡ f (get_or l k a) (get_or m k b)
-at_zip f [] m k a b c p q = absurd (omega arith)
-at_zip f (x ∷ l) [] k a b c p q = absurd (omega arith)
 at_zip f (x ∷ l) (y ∷ m) zero a b c p q = refl
 at_zip f (x ∷ l) (y ∷ m) (suc k) a b c p q = at_zip f l m k a b c (omega arith) (omega arith)
+at_zip f _ _ k a b c p q = absurd (omega arith)
 
 pub at_front : {A : Type 0} (l m : List A) (k : ℕ) (d : A) → k < length l → get_or (l ++ m) k d ≡ get_or l k d
-at_front [] m k d h = absurd (omega arith)
-at_front (a ∷ l) m zero d h = refl
-at_front (a ∷ l) m (suc k) d h = at_front l m k d (omega arith)
+at_front l m k d h = get_or_append_left l m d k h
 
 pub at_back : {A : Type 0} (l m : List A) (k : ℕ) (d : A) → get_or (l ++ m) (length l + k) d ≡ get_or m k d
-at_back [] m k d = ap (λ j. get_or m j d) (omega arith)
-at_back (a ∷ l) m k d = let e : length (a ∷ l) + k ≡ suc (length l + k) = omega arith in ap (λ j. get_or (a ∷ (l ++ m)) j d) e ∙ at_back l m k d
+at_back l m k d = get_or-append-add l m k d

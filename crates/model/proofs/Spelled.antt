@@ -1,10 +1,11 @@
 -- A text is the texts of its nodes' own tokens, with a space before each part, and what its length is. Assumes nothing.
-use Rattle.std.proofs.Common.{◌≡◌, ℕ, suc, ◌+◌, ◌≤◌, Bool, true, false, not, ◌||◌, List, [], ◌∷◌, ◌++◌, length, ℤ, pos, negsuc, decimal, sum_by, sym, refl, ap, ◌∙◌, append_assoc, append-nil, arith, length-append}
+use Rattle.std.proofs.Common.{◌≡◌, ℕ, suc, ◌+◌, ◌≤◌, Bool, true, false, not, ◌||◌, List, [], ◌∷◌, ◌++◌, length, get_or, ℤ, pos, negsuc, decimal, sum_by, sym, refl, ap, ◌∙◌, append_assoc, append-nil, arith, length-append}
 use Rattle.std.specs.Fmt.{signed_decimal}
 use Rattle.std.proofs.lemmas.Fmt.{length-decimal-le}
-use Rattle.std.proofs.ByRecursion.{All-weaker, sum_by_le}
+use Rattle.std.proofs.lemmas.List.Elements.{All-from_recursion}
 use Rattle.std.proofs.lemmas.Bool.{false≢true, not-true, cond_both}
-use Rattle.std.proofs.lemmas.List.Sums.{sum_by-cons, sum_by-append}
+use Rattle.std.proofs.Math.Bool.{or-false}
+use Rattle.std.proofs.lemmas.List.Sums.{sum_by-cons, sum_by-append, sum_by-le}
 use Rattle.model.specs.declared.node.Placement.{Placement}
 use Rattle.model.specs.declared.node.Placement.TheVariants as p
 use Rattle.model.specs.declared.node.Operator.{Operator}
@@ -34,10 +35,6 @@ spells_append b (t ∷ ts) us =
     ∙ ap (λ l. g ++ l) (sym (append_assoc (spell_token t) rest (spells (close_after (tight_after t) ts) us)))
     ∙ sym (append_assoc g (spell_token t ++ rest) (spells (close_after (tight_after t) ts) us))
 
-or_false : (b : Bool) → (b || false) ≡ b
-or_false true = refl
-or_false false = refl
-
 -- the first token does not stand close to what is before it
 abbrev begins_apart : List Token → Bool
 begins_apart [] = false
@@ -45,7 +42,7 @@ begins_apart (t ∷ ts) = not (tight_before t)
 
 apart : (b : Bool) (ts : List Token) → begins_apart ts ≡ true → spells b ts ≡ gap b ++ spells true ts
 apart b [] e = absurd (false≢true e)
-apart b (t ∷ ts) e = ap (λ x. gap x ++ (spell_token t ++ spells (tight_after t) ts)) (ap (λ x. b || x) (not-true (tight_before t) e) ∙ or_false b)
+apart b (t ∷ ts) e = ap (λ x. gap x ++ (spell_token t ++ spells (tight_after t) ts)) (ap (λ x. b || x) (not-true (tight_before t) e) ∙ or-false b)
 
 -- a node's own tokens: what stands before its parts is apart from what is before it and from its parts, and what follows a node is apart from it
 record Own {s : Sort} (h : Head s) : Type 0 where
@@ -56,19 +53,7 @@ record Own {s : Sort} (h : Head s) : Type 0 where
 
 own : {s : Sort} (h : Head s) → Own h
 own S.empty = record { named = refl; begins = refl; opens = λ b. refl; closes = λ us. refl }
-own (S.prim k a) = record { named = refl; begins = refl; opens = λ b. refl; closes = λ us. refl }
-own (S.place t a) = record { named = refl; begins = refl; opens = λ b. refl; closes = λ us. refl }
-own (S.join o) = record { named = refl; begins = refl; opens = λ b. refl; closes = λ us. refl }
-own S.fold = record { named = refl; begins = refl; opens = λ b. refl; closes = λ us. refl }
-own (S.vec a) = record { named = refl; begins = refl; opens = λ b. refl; closes = λ us. refl }
-own (S.list n) = record { named = refl; begins = refl; opens = λ b. refl; closes = λ us. refl }
-own (S.repeat n) = record { named = refl; begins = refl; opens = λ b. refl; closes = λ us. refl }
-own (S.tab n) = record { named = refl; begins = refl; opens = λ b. refl; closes = λ us. refl }
-own S.concat = record { named = refl; begins = refl; opens = λ b. refl; closes = λ us. refl }
-own (S.sort n) = record { named = refl; begins = refl; opens = λ b. refl; closes = λ us. refl }
-own (S.unsort n) = record { named = refl; begins = refl; opens = λ b. refl; closes = λ us. refl }
-own (S.map2 t) = record { named = refl; begins = refl; opens = λ b. refl; closes = λ us. refl }
-own (S.number j) = record { named = refl; begins = refl; opens = λ b. refl; closes = λ us. refl }
+own _ = record { named = refl; begins = refl; opens = λ b. refl; closes = λ us. refl }
 
 opening_apart : (b : Bool) {s : Sort} (h : Head s) → spells b (opening h) ≡ gap b ++ opening_text (node_of h)
 opening_apart b h = apart b (opening h) (own h).begins ∙ ap (λ l. gap b ++ l) (own h).named
@@ -180,35 +165,27 @@ bracket_le a h =
 
 name_le : (t : Placement) → length (spelling (placement_word t)) ≤ 9
 name_le p.Translate = omega arith
-name_le p.Scale = omega arith
-name_le p.Rotate = omega arith
+name_le _ = omega arith
 
 word_le : (o : Operator) → length (spelling (operator_word o)) ≤ 5
 word_le o.Union = omega arith
-word_le o.Diff = omega arith
-word_le o.Inter = omega arith
+word_le _ = omega arith
 
 -- no node takes more than 72 bytes
 own_le : (n : Node) → SevenNode n → own_length n ≤ 72
-own_le v.Empty h = omega arith
 own_le (v.Primitive k a) h = let b = bracket_le a h.1 in let d = signed_le k h.0 in let l = length-append (signed_decimal k) (32 ∷ spells true (bracket a)) in omega arith
 own_le (v.Place t a) h = let b = bracket_le a h in let d = name_le t in let l = length-append (spelling (placement_word t)) (32 ∷ spells true (bracket a)) in omega arith
 own_le (v.Join o) h = let d = word_le o in simp length-append (omega arith)
-own_le v.Fold h = omega arith
 own_le (v.Vector a) h = let b = bracket_le a h in omega arith
-own_le (v.List n) h = omega arith
 own_le (v.Repeat n) h = let d = signed_le n h in simp length-append (omega arith)
 own_le (v.Tabulate n) h = let d = signed_le n h in simp length-append (omega arith)
-own_le v.Concat h = omega arith
-own_le (v.Sort n) h = omega arith
-own_le (v.Unsort n) h = omega arith
 own_le (v.Map2 t) h = let d = name_le t in simp length-append (omega arith)
 own_le (v.Number j) h = let d = decimal_le j h in simp length-append (omega arith)
+own_le _ h = omega arith
 
 pub short_text : ShortText
 short_text s e few seven =
-    let all = All-weaker SevenNode (λ n. spaced n ≤ 73) (λ n h. let l = own_le n h in omega arith) (flatten e) seven in
-    let sum = sum_by_le spaced 73 (flatten e) all in
+    let sum = sum_by-le spaced 73 (flatten e) (λ k d h. let l = own_le (get_or (flatten e) k d) (All-from_recursion SevenNode (flatten e) seven k d h) in omega arith) in
     let n = length_flatten e in
     let len = length_text e in
     omega arith

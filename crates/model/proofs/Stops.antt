@@ -9,7 +9,6 @@ use Rattle.model.specs.Tokens.{Token, tokens}
 use Rattle.model.specs.Feed.{Feed, token, bad, end, said, Clean}
 use Rattle.model.specs.Grammar.{Goal, element, Move, stuck, on, node, move, moved, room, run, Outcome, whole, refused, judged}
 use Rattle.model.specs.Readings.{before, alone, GoesOn, Halt, at_token, at_end, WholeReading}
-use Rattle.model.proofs.Once.{clash}
 use Rattle.model.proofs.Derive.{GenAll, After, forth}
 use Rattle.model.proofs.Rejoin.{back, met}
 
@@ -46,7 +45,7 @@ Told f gs n (refused (NoSolid s)) = (ts : List (Token × Span)) × (f' : Feed) �
 Told f gs n (refused (TooLarge s)) = (ts : List (Token × Span)) × (t : Token) × (f' : Feed) × (f ≡ before ts (token t s f')) × Begun gs (alone ts ++ (t ∷ [])) × Stays (alone ts) t gs n
 
 not_nil : {t : Token} {us : List Token} → [] ≡ t ∷ us → ⊥
-not_nil e = clash (cc)
+not_nil e = cc
 
 -- the first token of what goals stand for moves them on
 onward : (g : Goal) (gs : List Goal) (t : Token) (us : List Token) → GenAll (g ∷ gs) (t ∷ us) → After (move g gs t) us

@@ -14,9 +14,6 @@ use Rattle.model.proofs.Stops.{whole_reading}
 use Rattle.model.proofs.Back.{reads_back, within}
 use Rattle.model.proofs.Refused.{first_stop, first_bad, over_first}
 
-clash : {A : Type 0} → ◌≡◌ {A = ℕ} 0 1 → A
-clash z = absurd (omega arith)
-
 -- by whether the text is too long
 by_length : (text : List ℕ) (P : Outcome → Type 0) → (most_bytes < length text → P (refused (TooLarge past_end))) → (length text ≤ most_bytes → P (judged (feed_of text))) → P (outcome text)
 unfolding outcome
@@ -30,9 +27,8 @@ pub refuses : (text : List ℕ) (f : Refusal) → outcome text ≡ refused f →
 refuses text f = by_length text (λ o. o ≡ refused f → Refuses text f) (λ long. too_long f long) (λ short. stopped f short)
   where
     too_long : (f : Refusal) → most_bytes < length text → refused (TooLarge past_end) ≡ refused f → Refuses text f
-    too_long (NoToken s) long q = clash (cc)
-    too_long (NoSolid s) long q = clash (cc)
     too_long (TooLarge s) long q = inl (long, cc)
+    too_long _ long q = cc
 
     stopped : (f : Refusal) → length text ≤ most_bytes → judged (feed_of text) ≡ refused f → Refuses text f
     stopped (NoToken s) short q = (short, first_bad (feed_of text) s q)
@@ -41,7 +37,7 @@ refuses text f = by_length text (λ o. o ≡ refused f → Refuses text f) (λ l
 
 -- a text with the outcome of a program, which has the program's tokens, says it
 pub accepts : (text : List ℕ) (n : ℕ) (e : Solid) → outcome text ≡ whole n → said (feed_of text) ≡ tokens e → Accepts text e
-accepts text n e = by_length text (λ o. o ≡ whole n → said (feed_of text) ≡ tokens e → Accepts text e) (λ long q. clash (cc)) (λ short q says.
+accepts text n e = by_length text (λ o. o ≡ whole n → said (feed_of text) ≡ tokens e → Accepts text e) (λ long q. cc) (λ short q says.
     let w = whole_reading (feed_of text) n q in
     let l = within (feed_of text) n e q says in
     record { short = short; clean = w.3; says = says; orderless = subst (λ x. textual x ≡ true) (one_reading w.0 e (sym w.2 ∙ says)) w.1; small = l.1; shallow = l.2 })
@@ -51,7 +47,7 @@ pub told : (text : List ℕ) (e : Solid) → Accepts text e → outcome text ≡
 told text e a = by_length text (λ o. o ≡ whole (size e)) (λ long. absurd (omega (arith, a.short))) (λ short. reads_back e (feed_of text) a.orderless a.small a.shallow a.says a.clean)
 
 pub never : (text : List ℕ) (f : Refusal) (e : Solid) → outcome text ≡ refused f → Accepts text e → ⊥
-never text f e q a = let p = told text e a in clash (cc)
+never text f e q a = let p = told text e a in cc
 
 -- two texts say one program exactly when their tokens are equal
 pub same_program : (t u : List ℕ) (e f : Solid) → Accepts t e → Accepts u f → BothWays (e ≡ f) (said (feed_of t) ≡ said (feed_of u))

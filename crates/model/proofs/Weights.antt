@@ -1,6 +1,7 @@
 -- The nodes of an unrolling are counted without it. Assumes nothing.
-use Rattle.std.proofs.Common.{◌≡◌, ℕ, zero, suc, ◌+◌, ◌-◌, ◌*◌, Bool, true, false, cond, not, eqb, List, [], ◌∷◌, ◌++◌, length, replicate, Some, None, Option, sym, refl, ap, ◌∙◌, subst, ap₂, inl, inr, suc-mul, mul-zero, zero-mul, arith, rules}
+use Rattle.std.proofs.Common.{◌≡◌, ℕ, zero, suc, ◌+◌, ◌-◌, ◌*◌, Bool, true, false, cond, not, eqb, List, [], ◌∷◌, ◌++◌, length, replicate, Some, None, Option, sym, refl, ap, ◌∙◌, subst, ap₂, inl, inr, suc-mul, mul-zero, zero-mul, arith}
 use Rattle.std.specs.Option.{option_or}
+use Rattle.std.proofs.lemmas.Bool.{not-false, eqb-true}
 use Rattle.std.proofs.lemmas.Bool.Decides.{eqb_tells}
 use Rattle.model.specs.declared.node.Triple.{Triple}
 use Rattle.model.specs.declared.law.Context.{Context}
@@ -43,9 +44,8 @@ sum_from f w p i (suc k) = let h = sum_from f w p (suc i) k in omega (arith, suc
 
 sum_zip : (f : Triple → ℕ → ℕ) → ((v : Triple) (n : ℕ) → f v n ≡ suc n) → (vs : List Triple) (l : List ℕ) → length vs ≡ length l → sum (zip_with f vs l) ≡ sum l + length l
 sum_zip f p [] [] q = refl
-sum_zip f p [] (n ∷ l) q = absurd (omega arith)
-sum_zip f p (v ∷ vs) [] q = absurd (omega arith)
 sum_zip f p (v ∷ vs) (n ∷ l) q = let h = sum_zip f p vs l (omega arith) in omega (arith, p v n)
+sum_zip f p _ _ q = absurd (omega arith)
 
 folded_some : (k w : ℕ) → folded (suc k) w ≡ w + k
 folded_some k w = elim (eqb_tells (suc k) 0) [ inl p ↦ absurd (omega arith) | inr p ↦ ap (λ t. cond t 1 (w + (suc k - 1))) p.0 ∙ omega arith ]
@@ -80,22 +80,15 @@ row_vectors (suc n) (more e es) d p = let h = row_vectors n es d.1 p.1 in omega 
 
 -- ---- what a kept law says of a node and its parts
 pub kept : (b : Bool) (at : ℕ) (o : Option ℕ) → cond b (Some at) o ≡ None → (b ≡ false) × (o ≡ None)
-kept true at o p = absurd (never p)
-  where
-    never : Some at ≡ None → ⊥
-    never e = let z : ◌≡◌ {A = ℕ} 0 1 = cc in omega arith
+kept true at o p = cc
 kept false at o p = (refl, p)
 
 pub neither : (a b : Option ℕ) → option_or a b ≡ None → (a ≡ None) × (b ≡ None)
 neither None b p = (refl, p)
-neither (Some n) b p = absurd (let z : ◌≡◌ {A = ℕ} 0 1 = cc in omega arith)
-
-clash : (t : Bool) → t ≡ false → not t ≡ false → ⊥
-clash true e f = search rules
-clash false e f = search rules
+neither (Some n) b p = cc
 
 even_counts : (a b : ℕ) → not (eqb a b) ≡ false → a ≡ b
-even_counts a b q = elim (eqb_tells a b) [ inl p ↦ p.1 | inr p ↦ absurd (clash (eqb a b) p.0 q) ]
+even_counts a b q = eqb-true a b (not-false (eqb a b) q)
 
 -- ---- the order in front of a list
 order_run : {X : Type 0} (H : Shape X) (ss : List Sort) (n : ℕ) (es : Exprs (replicate n num ++ ss)) (i : ℕ) → order X ss n (runs H es i) ≡ order_in ss n es

@@ -41,19 +41,9 @@ small_opening (S.number j) k = ((k, omega arith), tt)
 
 small_closing : {s : Sort} (h : Head s) → AllByRecursion SmallToken (closing h)
 small_closing S.empty = tt
-small_closing (S.prim n a) = (tt, tt)
-small_closing (S.place t a) = (tt, tt)
-small_closing (S.join o) = (tt, tt)
-small_closing S.fold = (tt, tt)
 small_closing (S.vec a) = tt
-small_closing (S.list n) = (tt, tt)
-small_closing (S.repeat n) = (tt, tt)
-small_closing (S.tab n) = (tt, tt)
-small_closing S.concat = (tt, tt)
-small_closing (S.sort n) = (tt, tt)
-small_closing (S.unsort n) = (tt, tt)
-small_closing (S.map2 t) = (tt, tt)
 small_closing (S.number j) = tt
+small_closing _ = (tt, tt)
 
 mutual
   unfolding tokens row flatten flattens
@@ -82,20 +72,13 @@ seven_bracket a h =
     (x.0, y.0, z.0, x.1, y.1, z.1)
 
 seven_opening : {s : Sort} (h : Head s) → AllByRecursion SmallToken (opening h) → SevenNode (node_of h)
-seven_opening S.empty k = tt
 seven_opening (S.prim n a) k = (k.1.1.0.0, seven_bracket a k.1.1.1)
 seven_opening (S.place t a) k = seven_bracket a k.1.1
-seven_opening (S.join o) k = tt
-seven_opening S.fold k = tt
 seven_opening (S.vec a) k = seven_bracket a k
-seven_opening (S.list n) k = tt
 seven_opening (S.repeat n) k = k.1.1.0.0
 seven_opening (S.tab n) k = k.1.1.1.1.0.0
-seven_opening S.concat k = tt
-seven_opening (S.sort n) k = tt
-seven_opening (S.unsort n) k = tt
-seven_opening (S.map2 t) k = tt
 seven_opening (S.number j) k = k.0.0
+seven_opening _ k = tt
 
 mutual
   unfolding tokens row flatten flattens

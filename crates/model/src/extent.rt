@@ -1,6 +1,6 @@
 // The terms that begin at a node of a table, and how deep they are.
 ghost use Rattle.std.specs.Prelude.{◌≡◌, ◌+◌, ◌-◌, ◌^◌, ◌<◌, ◌≤◌, min, length};
-ghost use Rattle.model.specs.Depths.{TermExtent, PartsExtent};
+ghost use Rattle.model.specs.Depths.{PartsExtent};
 ghost use Rattle.model.specs.Nodes.{parts as parts_of};
 ghost use Rattle.model.specs.Syntax.{depth as depth_of};
 ghost use Rattle.model.specs.Tables.{held};
@@ -24,22 +24,7 @@ impl Node {
     }
 }
 
-// The term that begins at a place.
-#[cycle(extents)]
-fn term_extent(nodes: &[Node], place: usize) -> Extent
-    requires { place < length nodes.now }
-    ensures within { (result.depth + place ≤ result.end) × (place < result.end) × (result.end ≤ length nodes.now) }
-    ensures extent { TermExtent nodes.now place result }
-{
-    let parts = parts_extent(nodes, place + 1, nodes[place].parts());
-    Extent {
-        end: parts.end,
-        depth: parts.depth + 1,
-    }
-}
-
 // So many terms in a row: the depth is the deepest one's.
-#[cycle(extents)]
 fn parts_extent(nodes: &[Node], place: usize, count: usize) -> Extent
     requires { place ≤ length nodes.now }
     ensures within { (result.depth + place ≤ result.end) × (result.end ≤ length nodes.now) }
@@ -51,11 +36,11 @@ fn parts_extent(nodes: &[Node], place: usize, count: usize) -> Extent
             depth: 0,
         };
     }
-    let first = term_extent(nodes, place);
-    let rest = parts_extent(nodes, first.end, count - 1);
+    let inner = parts_extent(nodes, place + 1, nodes[place].parts());
+    let rest = parts_extent(nodes, inner.end, count - 1);
     Extent {
         end: rest.end,
-        depth: first.depth.max(rest.depth),
+        depth: rest.depth.max(inner.depth + 1),
     }
 }
 

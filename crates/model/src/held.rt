@@ -10,6 +10,7 @@ use std::alloc::{AllocError, Global};
 
 impl Table {
     /// A table that holds `Empty`.
+    #[tactic(auto, unfolding(crate::specs::Held::whole, crate::specs::Held::program))]
     pub fn new(heap: Global) -> Result<Table, AllocError>
         ensures { IfOk result (λ t. held t ≡ Empty) }
     {
@@ -22,6 +23,7 @@ impl Table {
     }
 
     /// The number of nodes of the program held.
+    #[tactic(auto, using(crate::proofs::Holding::size_program))]
     pub fn size(&self) -> usize
         ensures { result ≡ size (held self.now) }
     {

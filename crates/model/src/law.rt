@@ -20,14 +20,14 @@ pub enum Law {
 }
 
 /// The law that is broken, and the number of the first node that breaks it.
-#[derive(Clone, Copy)]
+#[derive(Clone, Copy, PartialEq, Eq)]
 pub struct Fault {
     pub law: Law,
     pub node: usize,
 }
 
 /// Where a node stands.
-#[derive(Clone, Copy)]
+#[derive(Clone, Copy, PartialEq, Eq)]
 pub struct Context {
     /// The count of the Tabulate around it.
     pub around: Option<i64>,

@@ -7,6 +7,7 @@ use super::table::Table;
 
 impl Node {
     /// Whether two nodes are the same, number for number: what `==` decides, as a promise.
+    #[tactic(auto, using(crate::proofs::Equal::decided))]
     pub fn same(self, other: Node) -> bool
         ensures { Decides result (self ≡ other) }
     {
@@ -16,6 +17,7 @@ impl Node {
 
 impl Table {
     /// Whether two tables hold the same program.
+    #[tactic(auto, using(crate::proofs::Equal::same_programs))]
     pub fn same(&self, other: &Table) -> bool
         ensures { Decides result (held self.now ≡ held other.now) }
     {

@@ -1,6 +1,6 @@
 // The fixed words and marks of a text.
 
-#[derive(Clone, Copy)]
+#[derive(Clone, Copy, PartialEq, Eq)]
 pub enum Word {
     Empty,
     Prim,
