@@ -11,5 +11,5 @@ returns c =
     let fy : SFits w64 c.args.at.y = search rules in
     let fz : SFits w64 c.args.at.z = search rules in
     let n = simp to_z-of_z at c.new.ensures in
-    let e = sym c.if-is_far.ensures in
+    let e = sym c.if-is_beyond.ensures in
     n ∙ ap (λ (b : Bool). cond b (Some (point at)) None) (near_point at e) ∙ sym (ap (λ (b : Bool). cond b None (Some (point at))) e)

@@ -12,5 +12,5 @@ pub returns : goal.returns
 returns c =
     let v = c.args.v in
     let t = c.args.placement in
-    neither _ _ _ _ c.if-is_far.ensures c.if-is_far-2.ensures
+    neither _ _ _ _ c.if-is_beyond.ensures c.if-is_beyond-2.ensures
     (c.is_unfit_somewhere.ensures ∙ ap (some_axis_along (unfit t) v) c.turns_around.ensures ∙ sym (by_axis (unfit t) v c.args.context.around))
