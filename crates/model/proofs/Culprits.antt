@@ -16,6 +16,7 @@ use Rattle.model.specs.Unrolling.{unroll}
 use Rattle.model.specs.Tokens.{tokens, row, opening, closing}
 use Rattle.model.specs.Feed.{Feed, token, bad, end, said}
 use Rattle.model.specs.Starts.{before, befores, nth_span}
+use Rattle.model.proofs.Readable.{some_node}
 
 -- ---- the node
 -- n is one of k numbers from at on
@@ -41,10 +42,6 @@ mutual
   firsts_within m l c none at n p = cc
   firsts_within m l c (more e es) at n p =
       either_within (first m l c e at) (firsts m l c es (at + size e)) at (size e) (sizes es) n (first_within m l c e at n) (firsts_within m l c es (at + size e) n) p
-
-some_node : {s : Sort} (e : Expr s) → 0 < size e
-unfolding size
-some_node (node h es) = omega arith
 
 -- node 0, or else a node as told
 root_within : (b : Bool) (k n : ℕ) (o : Option ℕ) → 0 < k → (o ≡ Some n → n < k) → cond b (Some 0) o ≡ Some n → n < k

@@ -10,7 +10,7 @@ use Rattle.std.proofs.lemmas.Bool.{cond-true, cond-false, and_right, and_from, a
 use Rattle.std.proofs.lemmas.List.Recursion.{and_fails_at}
 use Rattle.model.specs.Bytes.{natural, natural_of, minus, amount_of, change_of, cut, slope_of, plain_of, number_of, Small, NumberSmall}
 
-all_digits : IsNumeralModel (λ ds. all_ascii_digits ds ≡ true) (digits_value 10)
+pub all_digits : IsNumeralModel (λ ds. all_ascii_digits ds ≡ true) (digits_value 10)
 all_digits = numerals_by_value _ tells_all_ascii_digits
 
 pub no_natural_byte : (run : List ℕ) (i : ℕ) → i < length run → is_ascii_digit (get_or run i 0) ≡ false → natural_of run ≡ None

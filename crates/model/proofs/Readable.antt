@@ -1,5 +1,6 @@
 -- A node says its head, and an expression has as many nodes as its size. Assumes nothing.
-use Rattle.std.proofs.Common.{◌≡◌, suc, ◌+◌, List, length, sym, refl, ap, ◌∙◌, ap₂, length-append}
+use Rattle.std.proofs.Common.{◌≡◌, ℕ, suc, ◌+◌, ◌<◌, List, ◌++◌, length, drop, sym, refl, ap, ◌∙◌, ap₂, arith, length-append}
+use Rattle.std.proofs.lemmas.List.{drop-drop, drop_at}
 use mathlib.Core.Option.{Option, some}
 use Rattle.model.specs.declared.node.Node.{Node}
 use Rattle.model.specs.Syntax.{Sort, Head, arity, Expr, Exprs, node, none, more, size, sizes}
@@ -28,3 +29,12 @@ mutual
   pub length_flattens : {ss : List Sort} (es : Exprs ss) → length (flattens es) ≡ sizes es
   length_flattens none = refl
   length_flattens (more e es) = length-append (flatten e) (flattens es) ∙ ap₂ ◌+◌ (length_flatten e) (length_flattens es)
+
+-- an expression has a node
+pub some_node : {s : Sort} (e : Expr s) → 0 < size e
+unfolding size
+some_node (node h es) = omega arith
+
+-- the nodes behind an expression
+pub past_term : (nodes : List Node) (place : ℕ) {s : Sort} (e : Expr s) (rest : List Node) → drop place nodes ≡ flatten e ++ rest → drop (place + size e) nodes ≡ rest
+past_term nodes place e rest stands = sym (drop-drop (size e) place nodes) ∙ ap (drop (size e)) stands ∙ drop_at (flatten e) rest (size e) (length_flatten e)

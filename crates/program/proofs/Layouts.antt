@@ -9,10 +9,10 @@ use Rattle.model.specs.Syntax.{one, solid}
 use Rattle.model.specs.Nodes.{flatten}
 use Rattle.model.specs.Tables.{held}
 use Rattle.model.proofs.Holding.{program_nodes}
-use Rattle.model.proofs.Readable.{length_flatten}
+use Rattle.model.proofs.Readable.{length_flatten, some_node}
 use Rattle.program.specs.declared.layout.Layout.{Layout}
 use Rattle.program.specs.Measures.{Tells, cap, measure, nothing}
-use Rattle.program.proofs.Told.{some_node, tells}
+use Rattle.program.proofs.Told.{tells}
 
 pub stands : (t : Table) → vec_items t.nodes ≡ flatten (held t) ++ []
 stands t = sym (program_nodes (vec_items t.nodes) t.program) ∙ sym (append-nil (flatten (held t)))

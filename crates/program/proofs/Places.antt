@@ -4,11 +4,11 @@ use Rattle.std.proofs.lemmas.List.{drop-drop, drop_at}
 use Rattle.model.specs.declared.node.Node.{Node}
 use Rattle.model.specs.Syntax.{Sort, Expr}
 use Rattle.model.specs.Nodes.{flatten}
-use Rattle.model.proofs.Readable.{length_flatten}
+use Rattle.model.proofs.Readable.{length_flatten, some_node}
 use Rattle.program.specs.declared.layout.Layout.{Layout}
 use Rattle.program.specs.declared.measure.Measure.{Measure}
 use Rattle.program.specs.Measures.{nothing}
-use Rattle.program.proofs.Told.{some_node, tells}
+use Rattle.program.proofs.Told.{tells}
 use Rattle.program.proofs.Layouts.{few_nodes}
 use Rattle.program.specs.Elements.{nodes_of, TellsHere}
 

@@ -9,7 +9,7 @@ use Rattle.model.specs.Nodes.{node_of, flatten, flattens}
 use Rattle.model.specs.Shapes.{natural}
 use Rattle.model.specs.Counts.{elements, unrolled, folded, count, counts, weight, weights}
 use Rattle.model.proofs.Extents.{arity_parts}
-use Rattle.model.proofs.Readable.{length_flatten}
+use Rattle.model.proofs.Readable.{length_flatten, some_node}
 use Rattle.program.specs.declared.measure.Measure.{Measure}
 use Rattle.program.specs.Measures.{cap, total, measure, over, terms, measures_of, nothing, Tells}
 
@@ -99,11 +99,6 @@ measures_drop (suc place) (n ∷ nodes) = measures_drop place nodes
 
 past : {s : Sort} (e : Expr s) (rest : List Node) → drop (size e) (flatten e ++ rest) ≡ rest
 past e rest = drop_at (flatten e) rest (size e) (length_flatten e)
-
--- an expression has a node
-pub some_node : {s : Sort} (e : Expr s) → 0 < size e
-unfolding size
-some_node (node h es) = omega arith
 
 pub length_measures : (nodes : List Node) → length (measures_of nodes) ≡ length nodes
 unfolding measures_of

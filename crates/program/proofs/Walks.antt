@@ -12,7 +12,7 @@ use Rattle.model.specs.Nodes.{node_of, parts, flatten, flattens}
 use Rattle.model.specs.Counts.{count, counts}
 use Rattle.model.specs.Legality.{breaks, below, first, firsts}
 use Rattle.model.proofs.Extents.{arity_parts, split_cons, some≢none, asked}
-use Rattle.model.proofs.Readable.{length_flatten}
+use Rattle.model.proofs.Readable.{past_term}
 use Rattle.model.proofs.Weights.{kept, neither}
 use Rattle.program.specs.declared.layout.Layout.{Layout}
 use Rattle.program.specs.declared.measure.Measure.{Measure}
@@ -21,11 +21,6 @@ use Rattle.program.proofs.Layouts.{few_nodes, tells_layout}
 use Rattle.program.specs.Judging.{counts_told, Counted, walked, TermJudged, PartsJudged}
 
 -- ---- what is told of a node and its parts
--- the nodes behind an expression
-behind : (nodes : List Node) (place : ℕ) {s : Sort} (e : Expr s) (rest : List Node) → drop place nodes ≡ flatten e ++ rest → drop (place + size e) nodes ≡ rest
-behind nodes place e rest stands =
-    sym (drop-drop (size e) place nodes) ∙ ap (drop (size e)) stands ∙ drop_at (flatten e) rest (size e) (length_flatten e)
-
 -- the first two of some expressions in a row
 two_told : (nodes : List Node) (ms : List Measure) → Tells nodes ms → (place : ℕ) (ss : List Sort) (es : Exprs ss) (rest : List Node) → drop place nodes ≡ flattens es ++ rest → 2 ≤ length ss
     → ((get_or ms place nothing).elements ≡ get_or (counts es) 0 0) × ((get_or ms (place + (get_or ms place nothing).nodes) nothing).elements ≡ get_or (counts es) 1 0)
@@ -35,7 +30,7 @@ two_told nodes ms tells place ss (more e none) rest stands two = absurd (omega a
 two_told nodes ms tells place ss (more {s = s} e (more {s = t} f es)) rest stands two =
     let at-e = stands ∙ append_assoc (flatten e) (flatten f ++ flattens es) rest in
     let told-e = tells place s e ((flatten f ++ flattens es) ++ rest) at-e in
-    let at_f = behind nodes place e ((flatten f ++ flattens es) ++ rest) at-e ∙ append_assoc (flatten f) (flattens es) rest in
+    let at_f = past_term nodes place e ((flatten f ++ flattens es) ++ rest) at-e ∙ append_assoc (flatten f) (flattens es) rest in
     let told-f = tells (place + size e) t f (flattens es ++ rest) at_f in
     (ap (λ (m : Measure). m.elements) told-e, ap (λ (m : Measure). (get_or ms (place + m.nodes) nothing).elements) told-e ∙ ap (λ (m : Measure). m.elements) told-f)
 
@@ -113,6 +108,6 @@ module _ (m : Meaning) (law : Law) (l : Layout) where
       let at-e = stands ∙ append_assoc (flatten e) (flattens es) rest in
       let a = walked_ok _ next _ (term s e (flattens es ++ rest) at-e (λ p. (neither _ _ (numbers p)).0)) in
       let parts' : PartsJudged m law l (place + size e) (k - 1) c r = subst (λ x. PartsJudged m law l x (k - 1) c r) a.1 parts in
-      let b = parts' ss' es rest (omega arith) (behind nodes place e (flattens es ++ rest) at-e) (λ p. (neither _ _ (numbers p)).1) in
+      let b = parts' ss' es rest (omega arith) (past_term nodes place e (flattens es ++ rest) at-e) (λ p. (neither _ _ (numbers p)).1) in
       let end : place + size e + sizes es ≡ place + (size e + sizes es) = omega arith in
       b ∙ ap (walked (firsts m law c es (place + size e))) end ∙ ap (λ o. walked (option_or o (firsts m law c es (place + size e))) (place + (size e + sizes es))) (sym a.0)

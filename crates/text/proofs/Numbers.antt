@@ -11,9 +11,7 @@ use Rattle.std.proofs.lemmas.List.{get_or-drop, get_or_past, drop_more, drop_all
 use Rattle.std.proofs.lemmas.Bool.{and_parts, cases_lt, leb-true, ltb-true}
 use Rattle.std.proofs.lemmas.Bool.Decides.{nat_tests}
 use Rattle.model.specs.Bytes.{natural}
-
-own : IsNumeralModel (λ ds. all_ascii_digits ds ≡ true) (digits_value 10)
-own = numerals_by_value _ tells_all_ascii_digits
+use Rattle.model.proofs.Numbers.{all_digits}
 
 -- digits one by one
 pub listed : (run : List ℕ) → list_all is_ascii_digit run ≡ all_ascii_digits run
@@ -47,10 +45,10 @@ pub natural_text : (run : List ℕ) → natural run ≡ true → IsUtf8 run
 natural_text run e = IsUtf8-from_ascii run (ascii run (parts run e).digits)
 
 pub natural_small : (run : List ℕ) → natural run ≡ true → digits_value 10 run < 10 ^ 7
-natural_small run e = digits_value_short own run 7 (parts run e).digits (parts run e).short
+natural_small run e = digits_value_short all_digits run 7 (parts run e).digits (parts run e).short
 
 pub natural_parses : {E : Type 0} (run : List ℕ) (r : Result ℕ E) → natural run ≡ true → ParsesUnsigned 32 10 run r → r ≡ Ok (digits_value 10 run)
-natural_parses run r e h = parse_gives own 32 run r h (parts run e).digits (parts run e).some (omega (arith, natural_small run e))
+natural_parses run r e h = parse_gives all_digits 32 run r h (parts run e).digits (parts run e).some (omega (arith, natural_small run e))
 
 -- the first byte is b
 pub head_yes : (run : List ℕ) (b : ℕ) → pointwise eqb (take 1 run) (b ∷ []) ≡ true → get_or run 0 0 ≡ b

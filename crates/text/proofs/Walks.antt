@@ -11,7 +11,7 @@ use Rattle.model.specs.Nodes.{node_of, parts, flatten, flattens}
 use Rattle.model.specs.Tokens.{opening, closing, tokens, row}
 use Rattle.model.specs.Starts.{before, befores}
 use Rattle.model.proofs.Extents.{split_cons, some≢none, asked}
-use Rattle.model.proofs.Readable.{length_flatten}
+use Rattle.model.proofs.Readable.{length_flatten, past_term}
 use Rattle.text.specs.declared.start.Walk.{Walk}
 use Rattle.text.specs.Starting.{opening_count, closing_count, most_own, own_count, passed, TermWalk, PartsWalk}
 
@@ -176,11 +176,6 @@ unfolding flatten flattens sizes befores
 parts_none nodes place k target why ss none rest is stands = (omega arith, refl)
 parts_none nodes place k target (inl z) ss (more (node h ds) es) rest is stands = absurd (omega arith)
 parts_none nodes place k target (inr l) ss (more (node h ds) es) rest is stands = absurd (some≢none (sym (drop_all place nodes l) ∙ stands))
-
--- what stands after an expression
-past_term : (nodes : List Node) (place : ℕ) {s : Sort} (e : Expr s) (rest : List Node) → drop place nodes ≡ flatten e ++ rest → drop (place + size e) nodes ≡ rest
-past_term nodes place e rest stands =
-    sym (drop-drop (size e) place nodes) ∙ ap (drop (size e)) stands ∙ ap (λ n. drop n (flatten e ++ rest)) (sym (length_flatten e)) ∙ drop-append_seam (flatten e) rest
 
 -- an expression, and those after it
 pub parts_more : (nodes : List Node) (place k target : ℕ) (first rest : Walk) → (k ≡ 0 → ⊥) → TermWalk nodes place target first → PartsWalk nodes first.end (k - 1) target rest
