@@ -1,13 +1,13 @@
 -- A walk over the nodes of a program finds the first node that breaks a law. Assumes nothing.
 use Rattle.std.proofs.Common.{◌≡◌, ℕ, suc, ◌+◌, ◌-◌, ◌^◌, ◌≤◌, min, Bool, true, false, cond, ◌⊎◌, List, ◌∷◌, ◌++◌, length, get_or, drop, vec_items, vec_len, Some, None, Ok, Err, Option, Result, sym, refl, ap, ◌∙◌, subst, inl, inr, append_assoc, add-one, arith}
 use Rattle.std.specs.Option.{option_or}
-use Rattle.std.proofs.lemmas.List.{drop_all, drop_at, drop-drop}
+use Rattle.std.proofs.lemmas.List.{drop_all}
 use Rattle.model.specs.declared.law.Law.{Law}
 use Rattle.model.specs.declared.law.Law.TheVariants.{Numbers, Primitives}
 use Rattle.model.specs.declared.law.Context.{Context}
 use Rattle.model.specs.declared.node.Node.{Node}
 use Rattle.model.specs.Families.{Meaning}
-use Rattle.model.specs.Syntax.{Sort, Head, arity, Expr, Exprs, node, none, more, size, sizes}
+use Rattle.model.specs.Syntax.{Sort, Head, arity, Exprs, node, none, more, size, sizes}
 use Rattle.model.specs.Nodes.{node_of, parts, flatten, flattens}
 use Rattle.model.specs.Counts.{count, counts}
 use Rattle.model.specs.Legality.{breaks, below, first, firsts}

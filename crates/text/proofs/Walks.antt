@@ -1,7 +1,6 @@
 -- Counting the tokens before a node along a list of nodes. Assumes nothing.
 use Rattle.std.proofs.Common.{◌≡◌, ℕ, suc, ◌+◌, ◌-◌, ◌^◌, ◌<◌, ◌≤◌, min, Bool, true, false, cond, ltb, leb, ◌⊎◌, List, ◌∷◌, ◌++◌, length, drop, sym, refl, ap, ◌∙◌, inl, inr, append_assoc, arith, length-append}
-use lib.Seq.{drop-append_seam}
-use Rattle.std.proofs.lemmas.List.{drop_all, drop-drop}
+use Rattle.std.proofs.lemmas.List.{drop_all}
 use Rattle.std.proofs.lemmas.Bool.{le-leb, lt-leb, cases_lt, cond_below, cond_above, cond-true, cond-false}
 use Rattle.model.specs.declared.node.Node.{Node}
 use Rattle.model.specs.declared.node.Node.TheVariants as v
@@ -11,7 +10,7 @@ use Rattle.model.specs.Nodes.{node_of, parts, flatten, flattens}
 use Rattle.model.specs.Tokens.{opening, closing, tokens, row}
 use Rattle.model.specs.Starts.{before, befores}
 use Rattle.model.proofs.Extents.{split_cons, some≢none, asked}
-use Rattle.model.proofs.Readable.{length_flatten, past_term}
+use Rattle.model.proofs.Readable.{past_term}
 use Rattle.text.specs.declared.start.Walk.{Walk}
 use Rattle.text.specs.Starting.{opening_count, closing_count, most_own, own_count, passed, TermWalk, PartsWalk}
 

@@ -1,4 +1,4 @@
-use Rattle.std.proofs.Common.{◌≤◌, ◌-◌, ◌+◌, min, max, length, take, drop, sym, ap, ◌∙◌, arith, length-take, length-drop}
+use Rattle.std.proofs.Common.{◌≤◌, ◌-◌, ◌+◌, min, max, length, take, drop, sym, ap, ◌∙◌, arith, length-drop}
 use Rattle.runzhivel.proofs.Cuts.{four, two_lengths, one_length}
 use Rattle.runzhivel.proofs.excerpt.Excerpt.around.Goals as goal
 
