@@ -14,7 +14,7 @@ use Rattle.model.specs.declared.word.Mark.{Mark}
 use Rattle.model.specs.Bytes.{in_word, in_number, starts_number, word_of, mark_of, number_of, Small}
 use Rattle.model.specs.Feed.{Feed}
 use Rattle.model.specs.Feed as F
-use Rattle.model.specs.Lexing.{Step, got, bad, end, run, stands, word_at, number_at, token_at, past_seps, step_at, fed, feeds, feed, number_token, SmallToken}
+use Rattle.model.specs.Lexing.{Step, got, end, run, stands, word_at, number_at, token_at, past_seps, step_at, fed, feeds, feed, number_token, SmallToken}
 use Rattle.model.specs.Tokens.{Token, word, mark}
 use Rattle.model.proofs.Numbers.{number_small}
 
