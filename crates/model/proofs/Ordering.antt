@@ -26,6 +26,7 @@ once d zero (m ∷ p) h e = rw (eq-eqb m m refl)
 once d (suc k) (m ∷ p) h e = once_here d k p (eqb (get_or p k d) m) (member d k p (omega arith)) e (once d k p (omega arith))
 
 -- ---- sums over the numbers below n
+-- std's `sum` folds from the left, so it does not compute at the first element
 abbrev pub sum : List ℕ → ℕ
 sum [] = 0
 sum (a ∷ l) = a + sum l

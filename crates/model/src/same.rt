@@ -1,4 +1,4 @@
-// Whether nodes, and programs, are the same.
+// Whether nodes, and programs, are the same: the contract of a derived `==` says only its own test.
 ghost use Rattle.std.specs.Prelude.{◌≡◌, Decides};
 ghost use Rattle.model.specs.Tables.{held};
 
