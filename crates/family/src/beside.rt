@@ -30,6 +30,7 @@ fn of_kind(kind: u16, absorbed: Option<Primitive>) -> Option<Primitive>
     absorbed.map(|part| Primitive { kind, ..part })
 }
 
+// Each answer chooses by the kind's parity on its own, since the two families are of two types.
 impl<F: Family, G: Family> Family for Beside<F, G> {
     ghost meaning = { λ s. beside (F.Family.meaning s.first) (G.Family.meaning s.second) };
 

@@ -44,6 +44,7 @@ fn row_fits(row: &Row, kind: u16) -> bool
     row.profile != kind || in_range(row)
 }
 
+// The rows and the kind go through three functions of a line each: a struct of both would say no more.
 fn all_fit(rows: &[Row], kind: u16) -> bool
     ensures { result ≡ list_all (fits kind) rows.now }
 {
@@ -97,6 +98,8 @@ fn holds(rows: &[Row], primitive: &Primitive, at: Reachable) -> bool
     is_listed(rows, primitive) && all_admit(rows, primitive.kind, at)
 }
 
+// `contains` is as the standard family's, but for what holds: one function for both would take a closure,
+// and its contract would be longer than the two.
 impl<'a> Family for Catalogue<'a> {
     ghost meaning = { λ s. catalogue s.rows.now };
 

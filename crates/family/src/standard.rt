@@ -10,6 +10,10 @@ use model::{Point, Primitive, Triple};
 
 const LARGEST: i64 = 1_000_000;
 
+const BOX: u16 = 1;
+
+const CYLINDER: u16 = 2;
+
 #[derive(Clone, Copy)]
 pub struct Standard;
 
@@ -23,14 +27,14 @@ fn is_box(primitive: &Primitive) -> bool
     ensures { result ≡ is_box primitive.now }
 {
     let Triple { x, y, z } = primitive.sizes;
-    primitive.kind == 1 && is_size(x) && is_size(y) && is_size(z)
+    primitive.kind == BOX && is_size(x) && is_size(y) && is_size(z)
 }
 
 fn is_cylinder(primitive: &Primitive) -> bool
     ensures { result ≡ is_cylinder primitive.now }
 {
     let Triple { x, y, z } = primitive.sizes;
-    primitive.kind == 2 && is_size(x) && is_size(y) && z == 0
+    primitive.kind == CYLINDER && is_size(x) && is_size(y) && z == 0
 }
 
 fn is_along(value: i64, length: i64, w: i64) -> bool

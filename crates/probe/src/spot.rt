@@ -15,7 +15,7 @@ const LONGEST_WAY: u32 = 2_000_000_000;
 /// A larger factor makes every divisor too large, or 0.
 const LARGEST_FACTOR: u32 = 1_000;
 
-// A coordinate less so many times the divisor.
+// A coordinate less so many times the divisor. The bounds here and below are each on another number.
 fn shifted(coordinate: i64, by: i64, w: i64) -> i64
     requires near { unsigned_abs coordinate ≤ 1000000000 }
     requires small { unsigned_abs by ≤ 2000000000 }

@@ -10,6 +10,7 @@ use super::bounds::{is_loose, is_uncounted, is_unkind, is_wild};
 use super::layout::Layout;
 use model::{Context, MOST_ELEMENTS, Node, Placement};
 
+// A node and where it stands are two values, of which each test asks what it needs.
 pub(crate) fn breaks_loops(node: Node, context: Context) -> bool
     ensures { (m : Meaning) (cs : List ℕ) → result ≡ is_broken m context cs node Loops }
 {

@@ -9,7 +9,8 @@ use super::measure::Measure;
 use model::Node;
 
 impl Layout {
-    /// The node at a place, or `Empty` past the last one.
+    /// The node at a place, or `Empty` past the last one: what lies there is no program's, and no
+    /// caller looks at it.
     pub fn node_at(&self, place: usize) -> Node
         ensures { result ≡ slice_index_or (nodes_of self.now) place Empty }
     {

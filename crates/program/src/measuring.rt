@@ -8,7 +8,8 @@ use super::measure::Measure;
 use super::parts::Parts;
 use model::{MOST_UNROLLED, Node};
 
-// So many terms in a row.
+// So many terms in a row. A walk of its own, as those of depths, tokens and laws are: what each tells
+// of a term has its own contract, and a slice has no type to say that it is short.
 fn gather(measures: &[Measure], from: usize, count: usize) -> Parts
     requires few { length measures.now ≤ most_nodes }
     requires place { from ≤ length measures.now }

@@ -7,7 +7,8 @@ ghost use Rattle.program.specs.Narrow.{bounded};
 
 use model::{Linear, Triple, Wide};
 
-/// Whether a number is farther from 0 than `most`.
+/// Whether a number is farther from 0 than `most`. `Triple::is_beyond` has the test of 64 bits, which
+/// needs no widening.
 pub(crate) fn is_beyond(most: u32, value: i128) -> bool
     ensures { result ≡ beyond most value }
 {
@@ -29,7 +30,7 @@ pub fn narrowed(most: u32, vector: Wide) -> Option<Triple>
     })
 }
 
-/// The same of a vector at an index.
+/// A vector at an index in 64 bits, if none of its numbers is farther from 0 than `most`.
 pub(crate) fn bounded_at(most: u32, vector: Linear, index: u64) -> Option<Triple>
     ensures { result ≡ bounded most (at_index index vector) }
 {

@@ -14,7 +14,7 @@ fn is_of_digits(word: &[u8]) -> bool
     word.iter().all(|b| b.is_ascii_digit())
 }
 
-// Whether it is one to eighteen digits.
+// Whether it is one to eighteen digits. A part's numbers go by another rule, so `text` has its own.
 fn is_natural(word: &[u8]) -> bool
     ensures { result ≡ natural word.now }
 {

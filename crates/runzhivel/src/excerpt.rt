@@ -22,7 +22,7 @@ pub struct Excerpt<'a> {
     ends_early: bool,
 }
 
-// How many bytes are shown of the line before the fault.
+// How many bytes are shown of the line before the fault. Two chains, since one comes from the end.
 fn shown_before(before: &[u8]) -> usize
     ensures { result ≤ length before.now }
 {

@@ -28,7 +28,8 @@ fn in_number(b: u8) -> bool
     b.is_ascii_digit() || matches!(b, b'+' | b'-' | b'i')
 }
 
-// Four functions, and not one that takes the test: its contract would be longer than the chains.
+// Four functions, and not one that takes the test: its contract would be longer than the chains. That
+// a run is no longer than its text is of each answer, and no value's.
 
 /// How many bytes at the front are separators.
 pub(crate) fn separators_len(text: &[u8]) -> usize

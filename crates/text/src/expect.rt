@@ -14,6 +14,7 @@ use super::form::placement_of;
 use super::token::{Lexer, Token, TokenKind};
 use model::{Linear, Mark, Numeral, Placement, Refusal, Span, Triple, Word};
 
+// `Ahead`, `Took` and `Goes` tell of a call, and no type of the lexer can: so each contract has them.
 impl Lexer<'_> {
     // The next token; a text that ends here is refused.
     pub(crate) fn take(&mut self) -> Result<Token, Refusal>
@@ -66,7 +67,7 @@ impl Lexer<'_> {
     }
 
     // The word `Union` after `Fold`. One function for it and `index_word` would need a table from words
-    // to goals, and the equality of words, and be longer.
+    // to goals, and be longer.
     pub(crate) fn union_word(&mut self) -> Result<(), Refusal>
         ensures ahead { Ahead self.old result self.new }
         ensures took { Took (λ _. tokens.word word.Union ∷ []) self.old result self.new }
@@ -130,6 +131,7 @@ impl Lexer<'_> {
         self.mark(Mark::Comma)?;
         let z = self.entry()?;
         self.mark(Mark::Right)?;
+        // By its fields: nowhere else are three numbers made a vector.
         Ok(Linear {
             constant: Triple {
                 x: x.constant,

@@ -30,7 +30,7 @@ pub(crate) enum ListForm {
     Map2,
 }
 
-// An Option says all that a TryFrom could, whose error would have nothing to name.
+// In these three an Option says all that a TryFrom could, whose error would have nothing to name.
 pub(crate) fn placement_of(word: Word) -> Option<Placement>
     ensures { MatchOption result ((gs : List Goal) → at_placement word gs ≡ stuck) (λ t. word ≡ placement_word t) }
 {
@@ -42,6 +42,7 @@ pub(crate) fn placement_of(word: Word) -> Option<Placement>
     }
 }
 
+// Its placements aren't asked of `placement_of`: tried, and the proof of the last arm didn't close.
 pub(crate) fn solid_form(word: Word) -> Option<SolidForm>
     ensures { MatchOption result ((d : ℕ) (gs : List Goal) → after_solid_word d gs word ≡ stuck) (λ f. word ≡ solid_word f) }
 {

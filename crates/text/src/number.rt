@@ -34,6 +34,7 @@ fn natural_of(run: &[u8]) -> Option<u32>
     std::str::from_utf8(run).ok()?.parse().ok()
 }
 
+// Two, since each sign has its own step from the digits.
 fn positive(digits: &[u8]) -> Option<i64>
     ensures { result ≡ option_map pos (natural_of digits.now) }
 {

@@ -30,6 +30,7 @@ struct Reader<'a, 'b> {
     draft: &'b mut Draft,
 }
 
+// `Moved` and `Onward` tell of a call, and no type of the reader can: so each contract has one of them.
 impl Reader<'_, '_> {
     // Refuses one more node past the limits, whose first token stands at `span`, with `levels` left.
     fn room_for(&self, levels: u16, span: Span) -> Result<(), Refusal>
@@ -42,7 +43,8 @@ impl Reader<'_, '_> {
         Ok(())
     }
 
-    // Adds a node, and says at which place.
+    // Adds a node, and says at which place. That it fits is known where the node's first token was
+    // taken, and not of every reader, so three contracts ask for it.
     fn push(&mut self, node: Node) -> usize
         requires { count self.old < 640 }
         ensures same { (self.new.lexer ≡ self.old.lexer) × (self.new.draft.ghost_name ≡ self.old.draft.ghost_name) }
@@ -55,7 +57,8 @@ impl Reader<'_, '_> {
         place
     }
 
-    // With `levels` left for it and its parts.
+    // With `levels` left for it and its parts. What is read and the levels go through five functions:
+    // a struct of both would have to be made anew for each part.
     #[cycle(reading)]
     fn element(&mut self, element: Element, levels: u16) -> Result<(), Refusal>
         ensures moved { Moved self.old result self.new }
@@ -223,7 +226,8 @@ impl Reader<'_, '_> {
         }
     }
 
-    // The elements that are left of a list and its closing bracket; says how many they were.
+    // The elements that are left of a list and its closing bracket; says how many they were. By a call
+    // of itself, since its contract is that of the list's rest.
     #[cycle(reading)]
     fn elements(&mut self, element: Element, levels: u16) -> Result<usize, Refusal>
         ensures moved { Moved self.old result self.new }

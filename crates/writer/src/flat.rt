@@ -66,7 +66,8 @@ fn put_closings(sink: &mut Sink, count: u128)
     }
 }
 
-// Puts what a solid comes to.
+// Puts what a solid comes to. The sink and the layout go through three functions: a struct of two
+// borrows would say no less.
 #[cycle(unrolling)]
 fn put_solid(sink: &mut Sink, layout: &Layout, term: Term)
     ensures { SolidPut (nodes_of layout.now) term sink.old sink.new }
