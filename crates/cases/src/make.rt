@@ -36,6 +36,7 @@ fn long(heap: Global, bytes: usize) -> Result<Vec<u8>, AllocError> {
 // A line as it stands, with `\t`, `\r` and `\n` for a tab, a CR and an LF, and `\x` for a byte 255.
 fn plain(heap: Global, line: &[u8]) -> Result<Vec<u8>, AllocError> {
     let mut text = Vec::new(heap);
+    // A flag, since the byte after a backslash may be past the line's end.
     let mut escaped = false;
     for b in line {
         if escaped {

@@ -34,7 +34,7 @@ pub(crate) enum Frame {
     Rest(Task, u128, bool),
 }
 
-/// What a walk does next.
+/// What a walk does next: two named steps, of which a ControlFlow would name neither.
 #[derive(Clone, Copy)]
 pub(crate) enum Turn {
     Enter(Task),

@@ -17,7 +17,7 @@ impl Layout {
         self.table.nodes.get(place).copied().unwrap_or(Node::Empty)
     }
 
-    /// What is told of the term at a place, or nothing past the last one.
+    /// What is told of the term at a place, or nothing past the last one, where no term begins.
     pub fn measure_at(&self, place: usize) -> Measure
         ensures is { result ≡ slice_index_or (vec_items self.now.measures) place nothing }
         ensures tells { TellsHere (nodes_of self.now) place result }

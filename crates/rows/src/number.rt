@@ -8,6 +8,7 @@ ghost use Rattle.rows.specs.Numbers.{natural, natural_of, whole_of, profile_of};
 /// So many digits always fit an `i64`.
 const MOST_DIGITS: usize = 18;
 
+// `text` has the same chain: a function of another crate would be no shorter.
 fn is_of_digits(word: &[u8]) -> bool
     ensures { result ≡ list_all is_ascii_digit word.now }
 {

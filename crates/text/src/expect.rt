@@ -16,7 +16,7 @@ use model::{Linear, Mark, Numeral, Placement, Refusal, Span, Triple, Word};
 
 // `Ahead`, `Took` and `Goes` tell of a call, and no type of the lexer can: so each contract has them.
 impl Lexer<'_> {
-    // The next token; a text that ends here is refused.
+    // The next token; a text that ends here is refused at a span of no bytes, since no token stands there.
     pub(crate) fn take(&mut self) -> Result<Token, Refusal>
         ensures ahead { Ahead self.old result self.new }
         ensures takes { Takes self.old result self.new }

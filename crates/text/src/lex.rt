@@ -10,6 +10,7 @@ use super::number::number_of;
 use super::token::{Lexer, Token, TokenKind};
 use model::{Mark, Refusal, Span, Word};
 
+// In the order in which a run is compared with them.
 const WORDS: [Word; 17] = [
     Word::Empty,
     Word::Prim,

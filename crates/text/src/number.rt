@@ -9,6 +9,7 @@ use super::byte::digits_len;
 use model::Numeral;
 
 // Whether the bytes are digits.
+// `rows` has the same chain: a function of another crate would be no shorter.
 fn all_digits(run: &[u8]) -> bool
     ensures { result ≡ all_ascii_digits run.now }
 {

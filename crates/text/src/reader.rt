@@ -188,6 +188,7 @@ impl Reader<'_, '_> {
         let form = list_form(element, word).ok_or(Refusal::NoSolid(token.span))?;
         match form {
             ListForm::Elements => {
+                // How many elements it has is known at its end.
                 let place = self.push(Node::List(0));
                 let count = self.elements(element, levels)?;
                 let draft = &mut *self.draft;
