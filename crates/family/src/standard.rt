@@ -134,6 +134,7 @@ fn larger_cylinder(primitive: &Primitive, factors: Triple) -> Option<Primitive>
 }
 
 // Two tests in a row, since an enum of the two shapes would only be made to be matched at once.
+// `contains` is as the catalogue's: see there.
 impl Family for Standard {
     ghost meaning = { λ _. standard };
 

@@ -52,7 +52,8 @@ impl Linear {
 }
 
 impl Triple {
-    /// Whether one of its numbers is farther from 0 than `most`.
+    /// Whether one of its numbers is farther from 0 than `most`. `program` has the test of 128 bits; these
+    /// need no widening.
     pub fn is_beyond(self, most: u32) -> bool
         ensures { result ≡ some_axis (beyond most) self }
     {

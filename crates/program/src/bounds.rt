@@ -31,8 +31,8 @@ fn is_unfit(placement: Placement, value: i128) -> bool
     }
 }
 
-// Whether a number is unfit at one of the first indices, so many of them: asked of each. Three functions
-// take the same three values, and each of them once.
+// Whether a number is unfit at one of the first indices, so many of them: asked of each. Two functions
+// take the same three values, and a third a vector for the number.
 fn is_unfit_at_some(placement: Placement, number: Numeral, count: u64) -> bool
     ensures { result ≡ some_along (unfit placement) number count }
 {

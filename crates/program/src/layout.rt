@@ -5,8 +5,8 @@ ghost use Rattle.program.specs.Measures.{measures_of};
 use super::measure::Measure;
 use model::Table;
 
-/// All memory is asked for when it is made. Two lists, and not one of pairs: the table is the model's,
-/// which reads and writes it where nothing is told yet.
+/// All memory is asked for when it is made. Two lists, and not one of pairs: the table is the model's
+/// type, and is filled where nothing is told yet.
 #[derive(Drop)]
 pub struct Layout {
     pub table: Table,

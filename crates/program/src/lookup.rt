@@ -17,7 +17,8 @@ impl Layout {
         self.table.nodes.get(place).copied().unwrap_or(Node::Empty)
     }
 
-    /// What is told of the term at a place, or nothing past the last one, where no term begins.
+    /// What is told of the term at a place, or nothing past the last one: where no term
+    /// begins no answer hangs on it.
     pub fn measure_at(&self, place: usize) -> Measure
         ensures is { result ≡ slice_index_or (vec_items self.now.measures) place nothing }
         ensures tells { TellsHere (nodes_of self.now) place result }

@@ -8,7 +8,7 @@ use super::measure::Measure;
 use super::parts::Parts;
 use model::{MOST_UNROLLED, Node};
 
-// So many terms in a row. A walk of its own, as those of depths, tokens and laws are: what each tells
+// So many terms in a row. A walk of its own, as those of depths, tokens, laws and writing are: what each tells
 // of a term has its own contract, and a slice has no type to say that it is short.
 fn gather(measures: &[Measure], from: usize, count: usize) -> Parts
     requires few { length measures.now ≤ most_nodes }
@@ -106,7 +106,7 @@ fn fill(nodes: &[Node], measures: &mut [Measure])
     }
 }
 
-// Makes the measures those of the nodes.
+// Makes the measures those of the nodes: two lists, since there is no `Layout` of them yet.
 pub(crate) fn measure_nodes(nodes: &[Node], measures: &mut Vec<Measure>)
     requires few { length nodes.now ≤ most_nodes }
     requires room { most_nodes ≤ vec_capacity measures.old }

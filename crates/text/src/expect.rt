@@ -14,7 +14,8 @@ use super::form::placement_of;
 use super::token::{Lexer, Token, TokenKind};
 use model::{Linear, Mark, Numeral, Placement, Refusal, Span, Triple, Word};
 
-// `Ahead`, `Took` and `Goes` tell of a call, and no type of the lexer can: so each contract has them.
+// `Ahead`, `Took` and `Goes` tell of a call, and no type of the lexer can: so the contracts have
+// them, but for that of `take`, which has `Takes`.
 impl Lexer<'_> {
     // The next token; a text that ends here is refused at a span of no bytes, since no token stands there.
     pub(crate) fn take(&mut self) -> Result<Token, Refusal>
@@ -131,7 +132,7 @@ impl Lexer<'_> {
         self.mark(Mark::Comma)?;
         let z = self.entry()?;
         self.mark(Mark::Right)?;
-        // By its fields: nowhere else are three numbers made a vector.
+        // By its fields: nowhere else are three such numbers made one vector.
         Ok(Linear {
             constant: Triple {
                 x: x.constant,

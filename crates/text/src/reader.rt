@@ -30,7 +30,8 @@ struct Reader<'a, 'b> {
     draft: &'b mut Draft,
 }
 
-// `Moved` and `Onward` tell of a call, and no type of the reader can: so each contract has one of them.
+// `Moved` and `Onward` tell of a call, and no type of the reader can: so the contract of each
+// function that reads has one of them.
 impl Reader<'_, '_> {
     // Refuses one more node past the limits, whose first token stands at `span`, with `levels` left.
     fn room_for(&self, levels: u16, span: Span) -> Result<(), Refusal>

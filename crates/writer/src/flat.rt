@@ -16,6 +16,7 @@ use crate::writer::{Unwritten, put_open};
 use model::{Node, Operator, Placement, Wide, Word};
 use program::{Item, Layout, Part, Term};
 
+// Beside `put_bracket`: one function for both would take a trait, longer than both.
 fn put_triple(sink: &mut Sink, v: Wide)
     ensures { Puts (spells true (bracket (still (exact v)))) sink.old sink.new }
 {
@@ -67,7 +68,7 @@ fn put_closings(sink: &mut Sink, count: u128)
 }
 
 // Puts what a solid comes to. The sink and the layout go through three functions: a struct of two
-// borrows would say no less.
+// borrows would say no more.
 #[cycle(unrolling)]
 fn put_solid(sink: &mut Sink, layout: &Layout, term: Term)
     ensures { SolidPut (nodes_of layout.now) term sink.old sink.new }
@@ -137,7 +138,8 @@ fn put_unrolling(sink: &mut Sink, part: &Part)
 
 /// Writes the text of the unrolling of a part's program at the buffer's start, and answers its
 /// length. The unrolling is the program without lists, and has the same values at every point. A
-/// buffer that is shorter than the text stays wholly unchanged; else the bytes past the text stay.
+/// buffer that is shorter than the text stays wholly unchanged; else the bytes past the text stay. The
+/// buffer is the caller's, as all memory is.
 pub fn unroll(part: &Part, out: &mut [u8]) -> Result<usize, Unwritten>
     ensures wrote { Wrote (text_of (unrolling (held part.now.layout.table))) out.old result out.new }
     ensures keeps { UnrolledValues Bool }

@@ -137,7 +137,8 @@ fn put_program(sink: &mut Sink, table: &Table)
 }
 
 /// Writes the text of the program held at the buffer's start, and answers its length. A buffer that
-/// is shorter than the text stays wholly unchanged; else the bytes past the text stay.
+/// is shorter than the text stays wholly unchanged; else the bytes past the text stay. The buffer is
+/// the caller's, as all memory is.
 pub fn write(table: &Table, out: &mut [u8]) -> Result<usize, Unwritten>
     ensures wrote { Wrote (text_of (held table.now)) out.old result out.new }
     ensures measure { Measured (held table.now) }
