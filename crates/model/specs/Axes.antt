@@ -2,8 +2,8 @@
 use Rattle.std.specs.Prelude.{List, [], ◌∷◌}
 use Rattle.model.specs.declared.node.Triple.{Triple}
 use Rattle.model.specs.declared.node.Linear.{Linear}
-use Rattle.model.specs.declared.wide.Numeral.{Numeral}
-use Rattle.model.specs.declared.wide.Wide.{Wide}
+use Rattle.model.specs.declared.numeral.Numeral.{Numeral}
+use Rattle.model.specs.declared.numeral.Wide.{Wide}
 use Rattle.model.specs.Placements.{triple}
 
 -- the three numbers of a vector, each with its slope

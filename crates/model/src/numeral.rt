@@ -1,64 +1,16 @@
-// Numbers and vectors at an index of the loop around them, exact for every number of 64 bits.
-ghost use Rattle.std.specs.Prelude.{◌≡◌};
-ghost use Rattle.model.specs.Placements.{linear, at as at_index};
-ghost use Rattle.model.specs.Axes.{axes, exact};
-ghost use Rattle.model.specs.Legality.{beyond, some_axis};
+// Numbers that are linear in the loop index, and vectors at an index.
 
-use super::node::{Linear, Triple};
-use super::wide::{Numeral, Wide};
-
-impl Numeral {
-    /// Its value at an index.
-    pub fn at(self, index: u64) -> i128
-        ensures { result ≡ linear self.constant self.slope index }
-    {
-        i128::from(self.constant) + i128::from(index) * i128::from(self.slope)
-    }
+/// At index i it is `constant` plus i times `slope`.
+#[derive(Clone, Copy, PartialEq, Eq)]
+pub struct Numeral {
+    pub constant: i64,
+    pub slope: i64,
 }
 
-impl Linear {
-    /// Its numbers along x, y and z.
-    pub fn axes(self) -> [Numeral; 3]
-        ensures { result ≡ axes self }
-    {
-        let Linear { constant, slope } = self;
-        [
-            Numeral {
-                constant: constant.x,
-                slope: slope.x,
-            },
-            Numeral {
-                constant: constant.y,
-                slope: slope.y,
-            },
-            Numeral {
-                constant: constant.z,
-                slope: slope.z,
-            },
-        ]
-    }
-
-    /// The vector at an index.
-    pub fn at(self, index: u64) -> Wide
-        ensures { exact result ≡ at_index index self }
-    {
-        let [x, y, z] = self.axes();
-        Wide {
-            x: x.at(index),
-            y: y.at(index),
-            z: z.at(index),
-        }
-    }
-}
-
-impl Triple {
-    /// Whether one of its numbers is farther from 0 than `most`. `program` has the test of 128 bits; these
-    /// need no widening.
-    pub fn is_beyond(self, most: u32) -> bool
-        ensures { result ≡ some_axis (beyond most) self }
-    {
-        let most = u64::from(most);
-        let Triple { x, y, z } = self;
-        most < x.unsigned_abs() || most < y.unsigned_abs() || most < z.unsigned_abs()
-    }
+/// A vector at an index: a constant and a slope of 64 bits give numbers of up to 128.
+#[derive(Clone, Copy, PartialEq, Eq)]
+pub struct Wide {
+    pub x: i128,
+    pub y: i128,
+    pub z: i128,
 }

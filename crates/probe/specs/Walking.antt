@@ -92,6 +92,7 @@ module _ (nodes : List Node) where
   Low t (Leave b) = Unit {0}
 
   module _ (m : Meaning) where
+    -- the walks of a solid and of a list's elements, by the term's place and index
     abbrev pub walk : Term → Walk
     walk t = run (walking m) (term nodes (one solid) t.place) t.index
 

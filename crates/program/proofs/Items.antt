@@ -5,6 +5,7 @@ use Rattle.std.proofs.lemmas.Bool.{and_parts, cases_lt, false≢true}
 use Rattle.model.specs.declared.node.Node.{Node}
 use Rattle.model.specs.declared.node.Node.TheVariants as v
 use Rattle.model.specs.declared.node.Placement.{Placement}
+use Rattle.model.specs.declared.node.Linear.{Linear}
 use Rattle.model.specs.Syntax.{Kind, solid, vector, Sort, one, many, Head, arity, Expr, Exprs, Solid, node, none, more, textual_head, textual, textuals}
 use Rattle.model.specs.Syntax as S
 use Rattle.model.specs.Nodes.{node_of, flatten, flattens}
@@ -146,3 +147,8 @@ no_list nodes place (node (S.map2 q) es) b n here l r u c p = p q (here ∙ head
 pub no_vectors : (nodes : List Node) (place : ℕ) (e : Expr (many vector)) → Begins nodes place e → (p : Placement) → v.Map2 p ≡ get_or nodes place v.Empty → ⊥
 no_vectors nodes place (node h es) b p here =
     false≢true (ap (λ n. sorted_on (head_at n (many vector)) (λ _. true)) (here ∙ head_here nodes place h es b) ∙ ap (λ o. sorted_on o (λ _. true)) (headed h))
+
+-- a vector's node is no solid's
+pub no_solid : (nodes : List Node) (place : ℕ) (e : Expr (one solid)) → Begins nodes place e → (a : Linear) → v.Vector a ≡ get_or nodes place v.Empty → ⊥
+no_solid nodes place (node h es) b a here =
+    false≢true (ap (λ n. sorted_on (head_at n (one solid)) (λ _. true)) (here ∙ head_here nodes place h es b) ∙ ap (λ o. sorted_on o (λ _. true)) (headed h))

@@ -4,7 +4,7 @@ use borrow.Author.Differences.{ints}
 use Rattle.std.proofs.lemmas.Bool.{ltb-false, le-ltb}
 use Rattle.model.specs.Placements.{linear}
 use Rattle.model.specs.Legality.{beyond}
-use Rattle.model.specs.declared.wide.Numeral.{Numeral}
+use Rattle.model.specs.declared.numeral.Numeral.{Numeral}
 use Rattle.program.specs.Judging.{some_along}
 use Rattle.program.proofs.Indices.{some_is, none_is}
 

@@ -1,5 +1,5 @@
 -- What terms and the elements of lists come to, by the places of their nodes. Assumes nothing.
-use Rattle.std.specs.Prelude.{◌≡◌, ℕ, ◌+◌, ◌-◌, ◌^◌, ◌<◌, min, true, List, ◌++◌, length, drop, replicate, Some, None, Option, vec_items, slice_index_or}
+use Rattle.std.specs.Prelude.{◌≡◌, ℕ, ◌+◌, ◌-◌, ◌^◌, ◌<◌, ◌≤◌, min, true, List, ◌++◌, length, drop, replicate, Some, None, Option, vec_items, slice_index_or}
 use Rattle.model.specs.declared.node.Node.{Node}
 use Rattle.model.specs.declared.node.Triple.{Triple}
 use Rattle.model.specs.Syntax.{Kind, solid, vector, Sort, one, many, Expr, Exprs, Solid, textual, textuals}
@@ -9,11 +9,12 @@ use Rattle.model.specs.Counts.{count}
 use Rattle.model.specs.Unrolling.{programs}
 use Rattle.program.specs.declared.layout.Layout.{Layout}
 use Rattle.program.specs.declared.measure.Measure.{Measure}
-use Rattle.program.specs.Measures.{measure}
+use Rattle.program.specs.Measures.{measure, nothing}
 use Rattle.program.specs.declared.element.Term.{Term}
 use Rattle.program.specs.declared.element.Item.{Item}
 use Rattle.program.specs.declared.element.Item.TheVariants.{Whole, Placed}
 
+-- the nodes of a program that is laid out
 abbrev pub nodes_of : Layout → List Node
 nodes_of l = vec_items l.table.nodes
 
@@ -74,6 +75,14 @@ IsItem H nodes (Some (Placed p both)) vector x = ⊥
 -- the item is the element j of the list that is the term. Every way to take solids goes through the unrolling, so it is said of that alone
 abbrev pub Finds : List Node → Term → ℕ → Option Item → Type 0
 Finds nodes t j r = (k : Kind) (x : Val Solid k) → Holds programs nodes t j k x → IsItem programs nodes r k x
+
+-- no element j is told of the list at the term
+abbrev pub Lacks : Layout → Term → ℕ → Type 0
+Lacks l t j = (slice_index_or (vec_items l.measures) t.place nothing).elements ≤ j
+
+-- what stands for a vector where none is
+abbrev pub zeros : Triple
+zeros = idle programs vector
 
 -- the item stands behind the node of its list
 abbrev pub Behind : List Node → Term → Option Item → Type 0

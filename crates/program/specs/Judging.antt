@@ -7,7 +7,7 @@ use Rattle.model.specs.declared.law.Context.{Context}
 use Rattle.model.specs.declared.node.Node.{Node}
 use Rattle.model.specs.declared.node.Triple.{Triple}
 use Rattle.model.specs.declared.node.Linear.{Linear}
-use Rattle.model.specs.declared.wide.Numeral.{Numeral}
+use Rattle.model.specs.declared.numeral.Numeral.{Numeral}
 use Rattle.model.specs.Axes.{axes}
 use Rattle.model.specs.Families.{Meaning}
 use Rattle.model.specs.Syntax.{Sort, Expr, Exprs, Solid, size, sizes}

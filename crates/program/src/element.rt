@@ -1,10 +1,11 @@
 // Where the terms and the elements of lists stand in a program that is laid out.
-ghost use Rattle.std.specs.Prelude.{◌≡◌, ◌≤◌};
+ghost use Rattle.std.specs.Prelude.{◌≡◌, ◌+◌, ◌-◌, ◌^◌, ◌≤◌, min, None, vec_items, slice_index_or};
 ghost use Rattle.model.specs.declared.node.Triple.{Triple};
-ghost use Rattle.model.specs.Syntax.{vector};
+ghost use Rattle.model.specs.Syntax.{Solid, solid, vector};
 ghost use Rattle.model.specs.Axes.{exact};
 ghost use Rattle.model.specs.Unrolling.{programs};
-ghost use Rattle.program.specs.Elements.{nodes_of, part as part_of, Follows, Hops, Comes, Holds, Finds, Behind};
+ghost use Rattle.program.specs.Measures.{nothing};
+ghost use Rattle.program.specs.Elements.{nodes_of, part as part_of, Follows, Hops, Comes, Holds, Finds, Lacks, Behind, zeros};
 
 use super::layout::Layout;
 use model::{Node, Placement, Wide};
@@ -50,6 +51,7 @@ impl Term {
     /// The term right after it, at the same index.
     pub fn next(self, layout: &Layout) -> Term
         ensures index { result.index ≡ self.index }
+        ensures place { result.place ≡ min (self.place + (slice_index_or (vec_items layout.now.measures) self.place nothing).nodes) (2 ^ 64 - 1) }
         ensures ahead { self.place ≤ result.place }
         ensures after { Follows (nodes_of layout.now) self result }
     {
@@ -74,8 +76,8 @@ impl Term {
 }
 
 impl Layout {
-    /// The element `k` of a list, if one stands there.
-    pub fn find_item(&self, list: Term, k: u128) -> Option<Item>
+    // The element `k` of a list that has one.
+    fn seek(&self, list: Term, k: u128) -> Option<Item>
         ensures behind { Behind (nodes_of self.now) list result }
         ensures finds { Finds (nodes_of self.now) list k result }
     {
@@ -90,9 +92,9 @@ impl Layout {
             Node::Concat => {
                 let left = self.measure_at(first.place).elements;
                 if k < left {
-                    self.find_item(first, k)
+                    self.seek(first, k)
                 } else {
-                    self.find_item(first.next(self), k - left)
+                    self.seek(first.next(self), k - left)
                 }
             }
             Node::Map2(placement) => {
@@ -107,9 +109,23 @@ impl Layout {
         }
     }
 
-    // The vector that a term is at its index.
+    /// The element `k` of a list. None if the list has no such element, and where no list stands.
+    pub fn find_item(&self, list: Term, k: u128) -> Option<Item>
+        ensures behind { Behind (nodes_of self.now) list result }
+        ensures finds { Finds (nodes_of self.now) list k result }
+        ensures none { Lacks self.now list k → result ≡ None }
+    {
+        if k < self.measure_at(list.place).elements {
+            self.seek(list, k)
+        } else {
+            None
+        }
+    }
+
+    // The vector that a term is at its index; zeros for a solid.
     fn vector_at(&self, term: Term) -> Wide
-        ensures { (x : Triple) → Comes programs (nodes_of self.now) term vector x → exact result ≡ x }
+        ensures vector { (x : Triple) → Comes programs (nodes_of self.now) term vector x → exact result ≡ x }
+        ensures solid { (x : Solid) → Comes programs (nodes_of self.now) term solid x → exact result ≡ zeros }
     {
         match self.node_at(term.place) {
             Node::Vector(v) => v.at(term.index),
@@ -120,7 +136,9 @@ impl Layout {
     /// The element `k` of a list of vectors; zeros where no such list stands, since no caller would
     /// look at a None.
     pub fn vector_item(&self, list: Term, k: u128) -> Wide
-        ensures { (x : Triple) → Holds programs (nodes_of self.now) list k vector x → exact result ≡ x }
+        ensures vector { (x : Triple) → Holds programs (nodes_of self.now) list k vector x → exact result ≡ x }
+        ensures solid { (x : Solid) → Holds programs (nodes_of self.now) list k solid x → exact result ≡ zeros }
+        ensures none { Lacks self.now list k → exact result ≡ zeros }
     {
         match self.find_item(list, k) {
             Some(Item::Whole(term)) => self.vector_at(term),

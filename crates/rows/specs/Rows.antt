@@ -25,6 +25,7 @@ row_of ws = cond (length ws == 5) (five_of ws) None
 abbrev pub neither : Result (Option Row) Neither
 neither = Err (record {})
 
+-- what a line of words says by its row, if they make one
 abbrev pub a_row : Option Row → Result (Option Row) Neither
 a_row None = neither
 a_row (Some row) = Ok (Some row)

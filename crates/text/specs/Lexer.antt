@@ -3,7 +3,7 @@ use Rattle.std.specs.Prelude.{◌≡◌, ◌<◌, ℤ, Some, None, Ok, Err, Opti
 use Rattle.model.specs.declared.refusal.Span.{Span}
 use Rattle.model.specs.declared.refusal.Refusal.{Refusal}
 use Rattle.model.specs.declared.refusal.Refusal.TheVariants.{NoToken}
-use Rattle.model.specs.declared.wide.Numeral.{Numeral}
+use Rattle.model.specs.declared.numeral.Numeral.{Numeral}
 use Rattle.model.specs.Feed.{Feed, token, bad, end}
 use Rattle.model.specs.Lexing.{Step, got, feed}
 use Rattle.model.specs.Lexing as L

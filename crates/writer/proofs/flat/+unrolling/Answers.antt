@@ -27,7 +27,7 @@ pub put_item-returns-in-Some-Placed : goal.put_item-returns-in-Some-Placed
 put_item-returns-in-Some-Placed t c x has =
     let m = item_is programs (nodes_of c.args.layout.now) solid x c.in-Some-Placed.field-0-is (c.in-Some-Placed.ensures.finds solid x has) in
     let p = c.in-Some-Placed.placement in
-    let by = c.vector_item.ensures m.by m.vectors in
+    let by = c.vector_item.ensures.vector m.by m.vectors in
     puts_as (ap (λ q. placing p q ++ (text_of m.of ++ (41 ∷ []))) by ∙ text_placed p m.by m.of ∙ ap text_of m.is)
     (puts_then c.put_placing.ensures (puts_then (c.put_item.ensures m.of m.solids) c.byte.ensures))
 

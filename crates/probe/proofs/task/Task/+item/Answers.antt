@@ -12,7 +12,7 @@ returns-in-Some-Whole t c = λ m w h. let f = c.find_item in let i = c.in-Some-W
 
 pub returns-in-Some-Placed : goal.returns-in-Some-Placed
 returns-in-Some-Placed t c = λ m w h. let f = c.find_item in let i = c.in-Some-Placed in
-    led_placed _ m c.args.self.now c.args.k w h f.result f.ensures.finds f.ensures.behind i.placement i.both _ c.moved.result c.item.result (i.is ∙ ap Some i.field-0-is) c.vector_item-by.ensures c.moved.ensures (c.item.ensures m)
+    led_placed _ m c.args.self.now c.args.k w h f.result f.ensures.finds f.ensures.behind i.placement i.both _ c.moved.result c.item.result (i.is ∙ ap Some i.field-0-is) c.vector_item-by.ensures.vector c.moved.ensures (c.item.ensures m)
 
 pub returns-in-None : goal.returns-in-None
 returns-in-None t c = λ m w h. let f = c.find_item in

@@ -7,7 +7,7 @@ use Rattle.program.specs.declared.element.Item.TheVariants.{Placed}
 use Rattle.program.specs.Elements.{nodes_of, Holds, IsItem}
 use Rattle.program.proofs.Items.{behind_first, behind_part, no_list, no_vectors}
 use Rattle.program.proofs.Lists.{in_list, in_repeat, in_tabulate, index_fits, in_left, in_right, in_map2}
-use Rattle.program.proofs.layout.Layout.+find_item.Goals as goal
+use Rattle.program.proofs.layout.Layout.+seek.Goals as goal
 
 pub returns-in-List : goal.returns-in-List
 returns-in-List t c =
@@ -47,8 +47,8 @@ returns-then-k-left t c =
     let u = c.part-first.result in
     let first = behind_first l c.args.list u u v.Concat c.in-Concat.ensures (omega arith) c.part-first.ensures (omega arith) in
     record {
-      behind = behind_part (nodes_of l) c.args.list u c.find_item.result first c.find_item.ensures.behind;
-      finds = λ k x has. c.find_item.ensures.finds k x
+      behind = behind_part (nodes_of l) c.args.list u c.seek.result first c.seek.ensures.behind;
+      finds = λ k x has. c.seek.ensures.finds k x
           (in_left l c.args.list c.args.k k x has u c.measure_at-left.result c.part-first.ensures c.in-Concat.ensures c.measure_at-left.ensures.tells c.if-k-left.true);
     }
 
@@ -59,8 +59,8 @@ returns-else-k-left t c =
     let w = c.next.result in
     let second = behind_first l c.args.list u w v.Concat c.in-Concat.ensures (omega arith) c.part-first.ensures c.next.ensures.ahead in
     record {
-      behind = behind_part (nodes_of l) c.args.list w c.find_item-else-k-left.result second c.find_item-else-k-left.ensures.behind;
-      finds = λ k x has. c.find_item-else-k-left.ensures.finds k x
+      behind = behind_part (nodes_of l) c.args.list w c.seek-else-k-left.result second c.seek-else-k-left.ensures.behind;
+      finds = λ k x has. c.seek-else-k-left.ensures.finds k x
           (in_right l c.args.list c.args.k k x has u w c.measure_at-left.result c.part-first.ensures c.in-Concat.ensures c.measure_at-left.ensures.tells
           c.next.ensures.after c.next.ensures.index c.if-k-left.false);
     }
