@@ -58,15 +58,20 @@ fn plain(heap: Global, line: &[u8]) -> Result<Vec<u8>, AllocError> {
     Ok(text)
 }
 
+// The digits of a size as one number, whatever stands between them; past the largest it begins again at 0.
+fn number(size: &str) -> usize {
+    size.chars().filter_map(|c| c.to_digit(10)).fold(
+        0,
+        |value: usize, digit| value.wrapping_mul(10).wrapping_add(digit as usize),
+    )
+}
+
 /// `nodes N`, `levels N` and `bytes N` stand for texts of that size; any other line is its text.
 pub fn text_of_line(heap: Global, line: &str) -> Result<Vec<u8>, AllocError> {
-    let Some((what, size)) = line.split_once(' ') else {
-        return plain(heap, line.as_bytes());
-    };
-    match (what, size.parse()) {
-        ("nodes", Ok(nodes)) => wide(heap, nodes),
-        ("levels", Ok(levels)) => deep(heap, levels),
-        ("bytes", Ok(bytes)) => long(heap, bytes),
+    match line.split_once(' ') {
+        Some(("nodes", size)) => wide(heap, number(size)),
+        Some(("levels", size)) => deep(heap, number(size)),
+        Some(("bytes", size)) => long(heap, number(size)),
         _ => plain(heap, line.as_bytes()),
     }
 }
