@@ -29,19 +29,22 @@ module _ (nodes : List Node) (m : Meaning) (x : Task) (k : ℕ) (w : Walk) (h : 
       let i = walk_is nodes m t w f.0 in
       record { stands = i.1; behind = f.1.1; same = ap (λ y. y.says x.spot) i.0; turns = omega (arith, ap (λ (y : Walk). y.turns) i.0) }
 
-  pub led_placed : (p : Placement) (both : Both) (by : Triple) (s : Spot) (y : Task) → r ≡ Some (Placed p both) → ((u : Triple) → Holds programs nodes both.vectors both.k vector u → by ≡ u) → s ≡ moves p by x.spot
-      → ((z : Walk) → Holds (walking m) nodes both.solids both.k solid z → Leads nodes m (task both.solids s) z y) → Leads nodes m x w y
-  led_placed p both by s y e is_by moved rest =
+  -- a placed solid is as the element of the solids, from the spot that the placement leads to
+  pub placed_on : (p : Placement) (both : Both) (by : Triple) (s : Spot) → r ≡ Some (Placed p both) → ((u : Triple) → Holds programs nodes both.vectors both.k vector u → by ≡ u) → s ≡ moves p by x.spot
+      → (z : Walk) × Holds (walking m) nodes both.solids both.k solid z × ((y : Task) → Leads nodes m (task both.solids s) z y → Leads nodes m x w y)
+  placed_on p both by s e is_by moved =
       let f = found (Some (Placed p both)) e in
       let i = f.0 in
-      let l = rest i.of i.solids in
-      let turns = ap (λ (z : Walk). z.turns) i.is in
-      record {
-        stands = l.stands;
-        behind = omega (arith, f.1.1, l.behind);
-        same = l.same ∙ ap i.of.says (moved ∙ ap (λ u. moves p u x.spot) (is_by i.by i.vectors)) ∙ ap (λ z. z.says x.spot) i.is;
-        turns = omega (arith, l.turns, turns);
-      }
+      let turns = ap (λ (z : Walk). z.turns) i.is in (
+        i.of,
+        i.solids,
+        λ y l. record {
+          stands = l.stands;
+          behind = omega (arith, f.1.1, l.behind);
+          same = l.same ∙ ap i.of.says (moved ∙ ap (λ u. moves p u x.spot) (is_by i.by i.vectors)) ∙ ap (λ z. z.says x.spot) i.is;
+          turns = omega (arith, l.turns, turns);
+        },
+      )
 
   pub led_none : (y : Task) → r ≡ None → Leads nodes m x w y
   led_none y e = absurd (found None e).0

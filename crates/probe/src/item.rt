@@ -9,22 +9,27 @@ use super::task::Task;
 use program::{Item, Layout};
 
 impl Task {
-    /// The k-th element of the list that is the task.
+    /// The k-th element of the list that is the task. A loop, so that the stack does not grow with the
+    /// lists of placed solids that stand in one another.
     pub(crate) fn item(&self, layout: &Layout, k: u128) -> Task
         ensures { (m : Meaning) (w : Walk) → Holds (walking m) (nodes_of layout.now) self.now.term k solid w → Leads (nodes_of layout.now) m self.now w result }
     {
-        match layout.find_item(self.term, k) {
-            Some(Item::Whole(term)) => self.with_term(term),
-            Some(Item::Placed(placement, both)) => {
-                let by = layout.vector_item(both.vectors, both.k);
-                let solids = Task {
-                    term: both.solids,
-                    spot: moved(placement, by, self.spot),
-                };
-                solids.item(layout, both.k)
+        let mut list = *self;
+        let mut k = k;
+        loop {
+            match layout.find_item(list.term, k) {
+                Some(Item::Whole(term)) => return list.with_term(term),
+                Some(Item::Placed(placement, both)) => {
+                    let by = layout.vector_item(both.vectors, both.k);
+                    list = Task {
+                        term: both.solids,
+                        spot: moved(placement, by, list.spot),
+                    };
+                    k = both.k;
+                }
+                // No list stands there.
+                None => return list,
             }
-            // No list stands there.
-            None => self.with_term(self.term),
         }
     }
 }

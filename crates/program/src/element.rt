@@ -76,40 +76,50 @@ impl Term {
 }
 
 impl Layout {
-    // The element `k` of a list that has one.
+    // The element `k` of a list that has one. A loop, so that the stack does not grow with the lists
+    // that are joined.
     fn seek(&self, list: Term, k: u128) -> Option<Item>
         ensures behind { Behind (nodes_of self.now) list result }
         ensures finds { Finds (nodes_of self.now) list k result }
     {
-        let first = list.part();
-        match self.node_at(list.place) {
-            Node::List(_) => Some(Item::Whole(first.hop(self, k))),
-            Node::Repeat(_) => Some(Item::Whole(first)),
-            Node::Tabulate(_) => match u64::try_from(k) {
-                Ok(index) => Some(Item::Whole(Term { index, ..first })),
-                Err(_) => None,
-            },
-            Node::Concat => {
-                let left = self.measure_at(first.place).elements;
-                if k < left {
-                    self.seek(first, k)
-                } else {
-                    self.seek(first.next(self), k - left)
+        let mut list = list;
+        let mut k = k;
+        loop {
+            let first = list.part();
+            match self.node_at(list.place) {
+                Node::List(_) => return Some(Item::Whole(first.hop(self, k))),
+                Node::Repeat(_) => return Some(Item::Whole(first)),
+                Node::Tabulate(_) => {
+                    return match u64::try_from(k) {
+                        Ok(index) => Some(Item::Whole(Term { index, ..first })),
+                        Err(_) => None,
+                    };
                 }
+                Node::Concat => {
+                    let left = self.measure_at(first.place).elements;
+                    if k < left {
+                        list = first;
+                    } else {
+                        list = first.next(self);
+                        k -= left;
+                    }
+                }
+                Node::Map2(placement) => {
+                    let both = Both {
+                        vectors: first,
+                        solids: first.next(self),
+                        k,
+                    };
+                    return Some(Item::Placed(placement, both));
+                }
+                _ => return None,
             }
-            Node::Map2(placement) => {
-                let both = Both {
-                    vectors: first,
-                    solids: first.next(self),
-                    k,
-                };
-                Some(Item::Placed(placement, both))
-            }
-            _ => None,
         }
     }
 
     /// The element `k` of a list. None if the list has no such element, and where no list stands.
+    // Here and below: else the item is written to memory and read back for every element.
+    #[inline]
     pub fn find_item(&self, list: Term, k: u128) -> Option<Item>
         ensures behind { Behind (nodes_of self.now) list result }
         ensures finds { Finds (nodes_of self.now) list k result }
@@ -135,6 +145,7 @@ impl Layout {
 
     /// The element `k` of a list of vectors; zeros where no such list stands, since no caller would
     /// look at a None.
+    #[inline]
     pub fn vector_item(&self, list: Term, k: u128) -> Wide
         ensures vector { (x : Triple) → Holds programs (nodes_of self.now) list k vector x → exact result ≡ x }
         ensures solid { (x : Solid) → Holds programs (nodes_of self.now) list k solid x → exact result ≡ zeros }
