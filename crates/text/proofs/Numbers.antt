@@ -1,54 +1,29 @@
 -- What runs of digits are. Assumes nothing.
-use Rattle.std.proofs.Common.{◌≡◌, ℕ, zero, suc, ◌^◌, ◌<◌, ◌≤◌, true, not, eqb, ltb, leb, ◌&&◌, false, ◌+◌, ◌-◌, List, [], ◌∷◌, length, get_or, take, drop, Result, Ok, sym, refl, ap, ◌∙◌, inl, inr, arith}
-use Rattle.std.specs.Char.{is_ascii_digit}
-use Rattle.std.specs.List.{list_all}
-use Rattle.std.specs.Str.Parse.{digits_value, ParsesUnsigned}
-use Rattle.std.specs.Str.{all_ascii_digits, IsAscii, IsUtf8}
-use Rattle.std.proofs.lemmas.Str.{IsUtf8-from_ascii}
-use Rattle.std.proofs.lemmas.Str.Parse.{digits_value_short, parse_gives}
+use Rattle.std.proofs.Common.{◌≡◌, ℕ, ◌^◌, ◌<◌, ◌≤◌, true, eqb, false, ◌+◌, ◌-◌, ◌*◌, List, [], ◌∷◌, ◌++◌, map, length, get_or, take, drop, sym, ap, ◌∙◌, subst, inl, inr, arith}
+use Rattle.std.specs.Int.{IsInRange}
+use Rattle.std.specs.Str.Parse.{AllDigits, digits_value}
+use Rattle.std.proofs.lemmas.Int.Digits.{digits_push, digits_value_push}
+use Rattle.std.proofs.lemmas.Str.{digit_value_digit}
+use Rattle.std.proofs.lemmas.Str.Parse.{digits_value_short}
 use Rattle.std.specs.Cmp.Lexicographic.{pointwise, same_text, other_text}
-use Rattle.std.proofs.lemmas.List.{get_or-drop, get_or_past, drop_more, drop_all}
-use Rattle.std.proofs.lemmas.Bool.{and_parts, cases_lt, leb-true, ltb-true}
-use Rattle.std.proofs.lemmas.Bool.Decides.{nat_tests}
-use Rattle.model.specs.Bytes.{natural}
+use Rattle.std.proofs.lemmas.List.{length-map, map_push, get_or-drop, get_or_past, drop_more, drop_all}
+use Rattle.std.proofs.lemmas.Bool.{cases_lt}
 use Rattle.model.proofs.Numbers.{all_digits}
 
--- digits one by one
-pub listed : (run : List ℕ) → list_all is_ascii_digit run ≡ all_ascii_digits run
-listed [] = refl
-listed (b ∷ run) = ap (λ r. is_ascii_digit b && r) (listed run)
+-- these bytes are digits that write n
+pub record Writes (run : List ℕ) (n : ℕ) : Type 0 where
+  pub digits : AllDigits 10 run
+  pub value : n ≡ digits_value 10 run
 
--- digits are ASCII
-ascii : (run : List ℕ) → all_ascii_digits run ≡ true → IsAscii run
-ascii [] e i = omega arith
-ascii (b ∷ run) e zero = let d = (and_parts (is_ascii_digit b) (all_ascii_digits run) e).0 in grind (arith, nat_tests)
-ascii (b ∷ run) e (suc i) = ascii run (and_parts (is_ascii_digit b) (all_ascii_digits run) e).1 i
+pub Writes-push : {A : Type 0} (f : A → ℕ) (xs : List A) (x : A) (m n : ℕ) → Writes (map f xs) m → IsInRange 48 57 (f x) → n ≡ 10 * m + (f x - 48) → Writes (map f (xs ++ (x ∷ []))) n
+Writes-push f xs x m n w h e =
+    let d = digit_value_digit (f x) h in
+    subst (λ run. Writes run n) (sym (map_push f xs x))
+    (record { digits = digits_push 10 (map f xs) (f x) w.digits (omega (arith, d)); value = omega (arith, d, e, w.value, digits_value_push 10 (map f xs) (f x)) })
 
--- what one to seven digits are
-record Parts (run : List ℕ) : Type 0 where
-  pub some : 0 < length run
-  pub short : length run ≤ 7
-  pub digits : all_ascii_digits run ≡ true
-
-parts : (run : List ℕ) → natural run ≡ true → Parts run
-parts run e =
-    let some = and_parts (ltb 0 (length run)) _ e in
-    let short = and_parts (leb (length run) 7) _ some.1 in
-    record {
-      some = ltb-true 0 (length run) some.0;
-      short = leb-true (length run) 7 short.0;
-      digits = (and_parts (not (eqb (get_or run 0 0) 48)) (all_ascii_digits run) short.1).1;
-    }
-
--- they are text, and small, and parse as their value
-pub natural_text : (run : List ℕ) → natural run ≡ true → IsUtf8 run
-natural_text run e = IsUtf8-from_ascii run (ascii run (parts run e).digits)
-
-pub natural_small : (run : List ℕ) → natural run ≡ true → digits_value 10 run < 10 ^ 7
-natural_small run e = digits_value_short all_digits run 7 (parts run e).digits (parts run e).short
-
-pub natural_parses : {E : Type 0} (run : List ℕ) (r : Result ℕ E) → natural run ≡ true → ParsesUnsigned 32 10 run r → r ≡ Ok (digits_value 10 run)
-natural_parses run r e h = parse_gives all_digits 32 run r h (parts run e).digits (parts run e).some (omega (arith, natural_small run e))
+-- fewer than seven leave room for one more
+pub Writes-lt : {A : Type 0} (f : A → ℕ) (xs : List A) (n : ℕ) → Writes (map f xs) n → length xs ≤ 6 → n < 10 ^ 6
+Writes-lt f xs n w h = subst (λ m. m < 10 ^ 6) (sym w.value) (digits_value_short all_digits (map f xs) 6 (all_digits.from (map f xs) w.digits) (omega (arith, length-map xs f)))
 
 -- the first byte is b
 pub head_yes : (run : List ℕ) (b : ℕ) → pointwise eqb (take 1 run) (b ∷ []) ≡ true → get_or run 0 0 ≡ b

@@ -1,38 +1,26 @@
 // Numbers: what a run of bytes says.
 ghost use Rattle.std.specs.Prelude.{◌≡◌, ◌≤◌, pos, IfSome};
 ghost use Rattle.std.specs.Option.{option_map};
-ghost use Rattle.std.specs.Str.{all_ascii_digits};
-ghost use Rattle.model.specs.Bytes.{natural, natural_of, minus, amount_of, change_of, slope_of, plain_of, number_of};
+ghost use Rattle.model.specs.Bytes.{natural_of, minus, amount_of, change_of, slope_of, plain_of, number_of};
 ghost use Rattle.text.specs.Lexer.{pair};
 
 use super::byte::digits_len;
 use model::Numeral;
 
-// Whether the bytes are digits.
-// `rows` has the same chain: a function of another crate would be no shorter.
-fn all_digits(run: &[u8]) -> bool
-    ensures { result ≡ all_ascii_digits run.now }
-{
-    run.iter().all(u8::is_ascii_digit)
-}
-
-// Whether they are one to seven digits, the first not 0. A catalogue's numbers go by another rule,
-// so `rows` has its own.
-fn is_natural(run: &[u8]) -> bool
-    ensures { result ≡ natural run.now }
-{
-    !run.is_empty() && run.len() <= 7 && run[0] != b'0' && all_digits(run)
-}
-
-// The value of such a run.
+// The value of one to seven digits, the first not 0. A catalogue's numbers go by another rule, so
+// `rows` has its own.
 fn natural_of(run: &[u8]) -> Option<u32>
     ensures value { result ≡ natural_of run.now }
     ensures small { IfSome result (λ n. n ≤ 9999999) }
 {
-    if !is_natural(run) {
+    if run.is_empty() || run.len() > 7 || run[0] == b'0' {
         return None;
     }
-    std::str::from_utf8(run).ok()?.parse().ok()
+    // One pass tests and adds: many texts are mostly numbers.
+    run.iter().try_fold(0, |value, b| match b {
+        b'0'..=b'9' => Some(10 * value + u32::from(*b - b'0')),
+        _ => None,
+    })
 }
 
 // Two, since each sign has its own step from the digits.
