@@ -1,6 +1,6 @@
 // What a line says.
-ghost use Rattle.std.specs.Prelude.{◌≡◌, ◌≤◌, not, ◌==◌, length, MatchOption};
-ghost use Rattle.std.specs.List.{list_all, prefix_len};
+ghost use Rattle.std.specs.Prelude.{◌≡◌, ◌≤◌, not, ◌==◌, [], ◌∷◌, length, MatchOption};
+ghost use Rattle.std.specs.List.{prefix_len};
 ghost use Rattle.rows.specs.Words.{listed};
 ghost use Rattle.rows.specs.Pieces.{without_return, before_comment, is_blank, words};
 ghost use Rattle.rows.specs.Rows.{five_of};
@@ -50,27 +50,51 @@ fn before_comment(line: &[u8]) -> &[u8]
     &line[..content_len(line)]
 }
 
-fn is_of_blanks(text: &[u8]) -> bool
-    ensures { result ≡ list_all is_blank text.now }
+// How many blanks stand in front.
+fn blanks_len(text: &[u8]) -> usize
+    ensures value { result ≡ prefix_len is_blank text.now }
+    ensures within { result ≤ length text.now }
 {
-    text.iter().all(|b| is_blank(*b))
+    text.iter().take_while(|b| is_blank(**b)).count()
 }
 
-// The words of a text, if they are five.
-fn five_words(text: &[u8]) -> Option<Five<'_>>
-    ensures { MatchOption result (length (words text.now) ≡ 5 → ⊥) (λ five. words text.now ≡ listed five) }
+// How many bytes stand before the first blank.
+fn word_len(text: &[u8]) -> usize
+    ensures value { result ≡ prefix_len (λ b. not (is_blank b)) text.now }
+    ensures within { result ≤ length text.now }
 {
-    let mut words = text.split(|b| is_blank(*b)).filter(|word| !word.is_empty());
-    let five = Five {
-        profile: words.next()?,
-        p: words.next()?,
-        q: words.next()?,
-        r: words.next()?,
-        d: words.next()?,
-    };
-    match words.next() {
+    text.iter().take_while(|b| !is_blank(**b)).count()
+}
+
+// The first word of a text and what stands after it, if there is a word.
+// `split` would give an empty part for each blank of a run.
+fn first_word(text: &[u8]) -> Option<(&[u8], &[u8])>
+    ensures { MatchOption result (words text.now ≡ []) (λ found. words text.now ≡ found.0.now ∷ words found.1.now) }
+{
+    let text = &text[blanks_len(text)..];
+    if text.is_empty() {
+        return None;
+    }
+    Some(text.split_at(word_len(text)))
+}
+
+// This word and those of the rest, if they are five.
+fn five_words<'a>(profile: &'a [u8], rest: &'a [u8]) -> Option<Five<'a>>
+    ensures { MatchOption result (length (words rest.now) ≡ 4 → ⊥) (λ five. profile.now ∷ words rest.now ≡ listed five) }
+{
+    let (p, rest) = first_word(rest)?;
+    let (q, rest) = first_word(rest)?;
+    let (r, rest) = first_word(rest)?;
+    let (d, rest) = first_word(rest)?;
+    match first_word(rest) {
         Some(_) => None,
-        None => Some(five),
+        None => Some(Five {
+            profile,
+            p,
+            q,
+            r,
+            d,
+        }),
     }
 }
 
@@ -92,10 +116,10 @@ pub(crate) fn line_of(line: &[u8]) -> Result<Option<Row>, Neither>
     ensures { result ≡ said line.now }
 {
     let text = before_comment(without_return(line));
-    if is_of_blanks(text) {
+    let Some((profile, rest)) = first_word(text) else {
         return Ok(None);
-    }
-    let words = five_words(text).ok_or(Neither)?;
+    };
+    let words = five_words(profile, rest).ok_or(Neither)?;
     let row = row_from(words).ok_or(Neither)?;
     Ok(Some(row))
 }

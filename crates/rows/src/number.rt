@@ -1,6 +1,7 @@
 // The number that a word says.
-ghost use Rattle.std.specs.Prelude.{◌≡◌, pos};
+ghost use Rattle.std.specs.Prelude.{◌≡◌, ◌^◌, ◌<◌, true, pos};
 ghost use Rattle.std.specs.Char.{is_ascii_digit};
+ghost use Rattle.std.specs.Str.Parse.{digits_value};
 ghost use Rattle.std.specs.List.{list_all};
 ghost use Rattle.std.specs.Option.{option_map};
 ghost use Rattle.rows.specs.Numbers.{natural, natural_of, whole_of, profile_of};
@@ -8,7 +9,6 @@ ghost use Rattle.rows.specs.Numbers.{natural, natural_of, whole_of, profile_of};
 /// So many digits always fit an `i64`.
 const MOST_DIGITS: usize = 18;
 
-// `text` has the same chain: a function of another crate would be no shorter.
 fn is_of_digits(word: &[u8]) -> bool
     ensures { result ≡ list_all is_ascii_digit word.now }
 {
@@ -22,17 +22,25 @@ fn is_natural(word: &[u8]) -> bool
     !word.is_empty() && word.len() <= MOST_DIGITS && is_of_digits(word)
 }
 
-// The value of such digits.
+// The value of such digits. `parse` would test each of them once more.
+fn value_of(digits: &[u8]) -> u64
+    requires { natural digits.now ≡ true }
+    ensures value { result ≡ digits_value 10 digits.now }
+    ensures small { result < 10 ^ 18 }
+{
+    digits
+        .iter()
+        .fold(0, |value, b| 10 * value + u64::from(*b - b'0'))
+}
+
+// What a word of such digits says.
 fn natural_of(word: &[u8]) -> Option<i64>
     ensures { result ≡ option_map pos (natural_of word.now) }
 {
     if !is_natural(word) {
         return None;
     }
-    match str::from_utf8(word) {
-        Ok(digits) => digits.parse().ok(),
-        Err(_) => None,
-    }
+    Some(value_of(word) as i64)
 }
 
 // Such digits, with a value of sixteen bits.
