@@ -1,5 +1,7 @@
 -- One write after another. Assumes nothing.
-use Rattle.std.proofs.Common.{◌≡◌, ℕ, ◌+◌, ◌-◌, ◌^◌, ◌<◌, ◌≤◌, min, List, [], ◌++◌, length, take, drop, sym, refl, ap, ◌∙◌, subst, append_assoc, append-nil, add-zero, arith, length-append, take-append-drop}
+use Rattle.std.proofs.Common.{◌≡◌, ℕ, ◌+◌, ◌-◌, ◌^◌, ◌<◌, ◌≤◌, min, List, [], ◌++◌, length, take, drop, sym, refl, ap, ◌∙◌, subst, append_assoc, append-nil, add-zero, arith, length-append, length-drop, length-take-le, take-append-drop}
+use borrow.Rule.Slice.PartMut.{put_mid, same_len_mid}
+use Rattle.std.proofs.lemmas.Slice.{take-put_mid, drop-put_mid}
 use Rattle.std.proofs.lemmas.List.{drop-drop}
 use Rattle.writer.specs.declared.sink.Sink.{Sink}
 use Rattle.writer.specs.Putting.{Stand, Put, Puts}
@@ -30,6 +32,23 @@ put_then {i} {xs} {ys} {old} {mid} {new} {e} {e'} p q =
           let at : e ≡ i + length xs = omega (arith, p.end) in
           stand_then at (p.whole (omega arith) s) (q.whole (omega (arith, p.size)) (omega (arith, p.size)));
     }
+
+-- a piece of the buffer is overwritten
+pub put_piece : {xs ys old new : List ℕ} (i e : ℕ) → i < 2 ^ 64 → e ≡ min (i + length xs) (2 ^ 64 - 1) → e ≤ length old → length old < 2 ^ 63 → ys ≡ xs → new ≡ put_mid i (e - i) old ys → Put i xs old e new
+put_piece {xs} {ys} {old} {new} i e h at within small is to =
+    let long : length ys ≡ e - i = omega (arith, ap length is) in
+    record {
+      end = at;
+      size = ap length to ∙ same_len_mid i (e - i) old ys (omega (arith, long, length-take-le (e - i) (drop i old) (omega (arith, length-drop i old))));
+      whole = λ _ _. record {
+        front = ap (take (i + length xs)) to ∙ take-put_mid i (e - i) old ys (i + length xs) (omega (arith, ap length is)) (omega arith) ∙ ap (λ l. take i old ++ l) is;
+        back = ap (drop (i + length xs)) to ∙ drop-put_mid i (e - i) old ys (i + length xs) (omega arith) (omega arith) long;
+      };
+    }
+
+-- bytes past the buffer's end are only counted
+pub put_beyond : {xs old : List ℕ} (i e : ℕ) → e ≡ min (i + length xs) (2 ^ 64 - 1) → length old < e → Put i xs old e old
+put_beyond i e at beyond = record { end = at; size = refl; whole = λ l _. absurd (omega arith) }
 
 -- nothing
 pub puts_none : (s : Sink) → Puts [] s s

@@ -11,7 +11,13 @@ impl Sink<'_> {
         ensures { Puts (I.text n) self.old self.new }
     {
         let mut digits = Buffer::new();
-        self.bytes(digits.format(n).as_bytes());
+        let text = digits.format(n).as_bytes();
+        // Most numbers are one digit, and that is put sooner than it is copied.
+        if text.len() == 1 {
+            self.byte(text[0]);
+        } else {
+            self.bytes(text);
+        }
     }
 
     // A number after another one, with its sign in front.
@@ -23,6 +29,8 @@ impl Sink<'_> {
         self.integer(slope.unsigned_abs());
     }
 
+    // Inlined, as is `put_bracket`: calls cost time where numbers are small.
+    #[inline]
     pub fn number(&mut self, n: Numeral)
         ensures { Puts (numeral n.constant n.slope) self.old self.new }
     {

@@ -7,7 +7,7 @@ ghost use Rattle.writer.specs.Writing.{Wrote};
 
 use crate::writer::Unwritten;
 
-/// A buffer that is filled from its start; bytes past its end are only counted.
+/// A buffer that is filled from its start; what does not fit is only counted.
 #[derive(Drop)]
 pub struct Sink<'a> {
     out: &'a mut [u8],
@@ -24,21 +24,26 @@ impl<'a> Sink<'a> {
         Sink { out, end: 0 }
     }
 
+    // The place is read once: past the write it would be read again.
     pub fn byte(&mut self, byte: u8)
         ensures { Puts (byte ∷ []) self.old self.new }
     {
-        if self.end < self.out.len() {
-            self.out[self.end] = byte;
+        let end = self.end;
+        if end < self.out.len() {
+            self.out[end] = byte;
         }
-        self.end = self.end.saturating_add(1);
+        self.end = end.saturating_add(1);
     }
 
+    // All at once, or none: a text that is only measured costs an addition for each of its pieces.
     pub fn bytes(&mut self, bytes: &[u8])
         ensures { Puts bytes.now self.old self.new }
     {
-        for byte in bytes {
-            self.byte(*byte);
+        let end = self.end.saturating_add(bytes.len());
+        if end <= self.out.len() {
+            self.out[self.end..end].copy_from_slice(bytes);
         }
+        self.end = end;
     }
 }
 

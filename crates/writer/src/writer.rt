@@ -26,6 +26,7 @@ impl From<Unwritten> for u8 {
 }
 
 // One function for this and put_triple would take a trait for two kinds of number, longer than both.
+#[inline]
 fn put_bracket(sink: &mut Sink, v: Linear)
     ensures { Puts (spells true (bracket v)) sink.old sink.new }
 {
