@@ -12,7 +12,7 @@ impl Sink<'_> {
     {
         let mut digits = Buffer::new();
         let text = digits.format(n).as_bytes();
-        // Most numbers are one digit, and that is put sooner than it is copied.
+        // A digit alone, as many numbers are, is put sooner than it is copied.
         if text.len() == 1 {
             self.byte(text[0]);
         } else {
